@@ -1,0 +1,5 @@
+pub mod Fill
+pub mod Laws
+pub mod Returns
+pub mod Scan
+pub mod Stores

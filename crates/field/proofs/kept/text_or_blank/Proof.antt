@@ -1,0 +1,30 @@
+-- `field::kept::text_or_blank` meets its contract.
+use mathlib.Core.Path.{_∙_, sym}
+use borrow.Author.Needs.{needs}
+use denote.Ref.{now}
+use Rattle.field.specs.Kept.{isText, isBlank}
+use Rattle.field.proofs.Returns.{first-kind, other-kind, lawful-true, unlawful-false}
+use Rattle.field.proofs.kept.text_or_blank.Statement.{statement}
+use Rattle.field.proofs.kept.text_or_blank.Tie as tie
+
+text-requires : tie.Need-text-requires
+text-requires c κs = search needs
+
+enum-told : tie.Need-enum-told
+enum-told c = search needs
+
+enum-told-2 : tie.Need-enum-told-2
+enum-told-2 c = search needs
+
+returns : tie.Need-returns
+returns c = let s = now (c .before .before .before .before .args .s) in first-kind (isText s) (isBlank s) (lawful-true (isText s) (sym (c .before .before .text .ensures) ∙ c .enum-told2 .given .1))
+
+blank-requires : tie.Need-blank-requires
+blank-requires c κs = search needs
+
+returns-2 : tie.Need-returns-2
+returns-2 c = let s = now (c .before .before .before .before .before .args .s) in c .blank .ensures ∙ other-kind (isText s) (isBlank s) (unlawful-false (isText s) (sym (c .before .before .before .text .ensures) ∙ c .before .enum-told .given .1))
+
+pub text-or-blank-spec : {M : Type 1} → statement M
+text-or-blank-spec =
+    tie.close (tie.spec text-requires enum-told enum-told-2 returns blank-requires returns-2)

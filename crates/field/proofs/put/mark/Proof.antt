@@ -1,0 +1,20 @@
+-- `field::put::mark` meets its contract.
+use borrow.Author.Tests.{eq-eqb, ne-eqb}
+use borrow.Author.Needs.{needs}
+use Rattle.field.proofs.put.mark.Statement.{statement}
+use Rattle.field.proofs.put.mark.Tie as tie
+
+returns : tie.Need-returns
+returns c = simp (eq-eqb _ _ (c .if1 .taken))
+
+cast-result : tie.Need-cast-result
+cast-result c = search needs
+
+add-result : tie.Need-add-result
+add-result c = search needs
+
+returns-2 : tie.Need-returns-2
+returns-2 c = simp (ne-eqb _ _ (c .if1 .left))
+
+pub mark-spec : {M : Type 1} → statement M
+mark-spec = tie.close (tie.spec returns cast-result add-result returns-2)

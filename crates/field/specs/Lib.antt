@@ -1,0 +1,4 @@
+pub mod Byte
+pub mod Kept
+pub mod Number
+pub mod Skipped

@@ -1,0 +1,100 @@
+// Fields that are kept as their bytes.
+ghost use mathlib.Core.Path.{_≡_};
+ghost use Rattle.field.specs.Byte.{isOf, all};
+ghost use Rattle.field.specs.Kept.{isText, isBlank, isTextOrBlank, isDigitsOrBlank, isHex, isCode};
+ghost use Rattle.field.specs.Kept.{kept as Kept·kept, member as Kept·member};
+use crate::Bytes;
+use crate::Class;
+
+pub fn is_of(class: Class, b: u8) -> bool
+    ensures { λ r. ⌜ r ≡ isOf class b ⌝ }
+{
+    match class {
+        Class::Printable => (32 <= b) & (b <= 126),
+        Class::Space => b == 32,
+        Class::Digit => (48 <= b) & (b <= 57),
+        Class::Hex => (48 <= b) & (b <= 57) | (65 <= b) & (b <= 70),
+    }
+}
+
+// One pass with no early exit, so that it is vectorised.
+pub fn all_of(s: &[u8], class: Class) -> bool
+    ensures { λ r. ⌜ r ≡ all (isOf class) (now (s .entry)) ⌝ }
+{
+    let mut good = true;
+    let mut i = 0;
+    while i < s.len() {
+        good = good & is_of(class, s[i]);
+        i += 1;
+    }
+    good
+}
+
+fn kept(good: bool) -> Bytes
+    ensures { λ r. ⌜ r ≡ Kept·kept good ⌝ }
+{
+    if good { Bytes::Lawful } else { Bytes::Unlawful }
+}
+
+pub fn text(s: &[u8]) -> Bytes
+    ensures { λ r. ⌜ r ≡ Kept·kept (isText (now (s .entry))) ⌝ }
+{
+    if s.len() == 0 {
+        return Bytes::Unlawful;
+    }
+    if s[0] == 32 {
+        return Bytes::Unlawful;
+    }
+    kept(all_of(s, Class::Printable))
+}
+
+pub fn blank(s: &[u8]) -> Bytes
+    ensures { λ r. ⌜ r ≡ Kept·kept (isBlank (now (s .entry))) ⌝ }
+{
+    kept(all_of(s, Class::Space))
+}
+
+pub fn text_or_blank(s: &[u8]) -> Bytes
+    ensures { λ r. ⌜ r ≡ Kept·kept (isTextOrBlank (now (s .entry))) ⌝ }
+{
+    let Bytes::Unlawful = text(s) else {
+        return Bytes::Lawful;
+    };
+    blank(s)
+}
+
+pub fn digits_or_blank(s: &[u8]) -> Bytes
+    ensures { λ r. ⌜ r ≡ Kept·kept (isDigitsOrBlank (now (s .entry))) ⌝ }
+{
+    if all_of(s, Class::Digit) {
+        return Bytes::Lawful;
+    }
+    blank(s)
+}
+
+pub fn hex(s: &[u8]) -> Bytes
+    ensures { λ r. ⌜ r ≡ Kept·kept (isHex (now (s .entry))) ⌝ }
+{
+    kept(all_of(s, Class::Hex))
+}
+
+pub fn member(b: u8, codes: &[u8]) -> bool
+    ensures { λ r. ⌜ r ≡ Kept·member b (now (codes .entry)) ⌝ }
+{
+    let mut found = false;
+    let mut i = 0;
+    while i < codes.len() {
+        found = found | (b == codes[i]);
+        i += 1;
+    }
+    found
+}
+
+pub fn code(s: &[u8], codes: &[u8]) -> Bytes
+    ensures { λ r. ⌜ r ≡ Kept·kept (isCode (now (codes .entry)) (now (s .entry))) ⌝ }
+{
+    if s.len() != 1 {
+        return Bytes::Unlawful;
+    }
+    kept(member(s[0], codes))
+}

@@ -1,0 +1,59 @@
+//! The second program of Skurzelt, written from the papers alone. It answers the same cases as
+//! the proved program, so that two independent readings of the papers can be compared.
+
+mod cases;
+mod check;
+mod clock;
+mod line;
+mod random;
+mod record;
+mod refusal;
+mod strike;
+mod trial;
+mod vectors;
+
+use std::env;
+use std::io::{self, BufReader, BufWriter, Write};
+use std::process::ExitCode;
+
+const USAGE: &str = "usage: second trial < CASES | second cases SEED COUNT | second vectors | second check";
+const BUFFER: usize = 1 << 16;
+
+fn main() -> ExitCode {
+    let words: Vec<_> = env::args_os().skip(1).collect();
+    let words: Vec<_> = words.iter().map(|word| word.to_str().unwrap_or_default()).collect();
+    let mut output = BufWriter::with_capacity(BUFFER, io::stdout().lock());
+    match command(&words, &mut output).and_then(|code| output.flush().map(|()| code)) {
+        Ok(code) => code,
+        Err(error) => {
+            eprintln!("second: {error}");
+            ExitCode::FAILURE
+        }
+    }
+}
+
+fn command(words: &[&str], output: &mut impl Write) -> io::Result<ExitCode> {
+    match *words {
+        ["trial"] => {
+            let mut input = BufReader::with_capacity(BUFFER, io::stdin().lock());
+            trial::run(&mut input, output)?;
+        }
+        ["cases", seed, count] => {
+            let (Ok(seed), Ok(count)) = (seed.parse(), count.parse()) else { return Ok(usage()) };
+            cases::write(seed, count, output)?;
+        }
+        ["vectors"] => vectors::write(output)?,
+        ["check"] => {
+            if !check::run(output)? {
+                return Ok(ExitCode::FAILURE);
+            }
+        }
+        _ => return Ok(usage()),
+    }
+    Ok(ExitCode::SUCCESS)
+}
+
+fn usage() -> ExitCode {
+    eprintln!("{USAGE}");
+    ExitCode::from(2)
+}
