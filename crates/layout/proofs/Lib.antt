@@ -1,0 +1,10 @@
+pub mod Answers
+pub mod Demand2
+pub mod Examples
+pub mod First
+pub mod Forms
+pub mod Lines
+pub mod Refuted
+pub mod Rows
+pub mod Rules
+pub mod Values

@@ -1,0 +1,119 @@
+-- 01, The line: the table of the 24 fields, and how a line is read and written by it.
+use Prim.Native.Nat.{ℕ, _+_}
+use mathlib.Core.Bool.{Bool, true, false, cond, _&&_, _||_}
+use mathlib.Core.List.{List, [], _∷_, _++_}
+use lib.Dec.{eqb}
+use lib.ListN.{take, drop}
+use Rattle.layout.specs.Rule.{Rule, number, digits, price, code, kept, text, textOrBlank, blank, digitsOrBlank, hex, Value, Got, got, broken, reads, writes, lawful, fits}
+
+pub record Row : Type 0 where
+  pub no : ℕ
+  pub at : ℕ
+  pub len : ℕ
+  pub rule : Rule
+
+abbrev pub row : ℕ → ℕ → ℕ → Rule → Row
+row n at len rule = record { no = n; at = at; len = len; rule = rule }
+
+-- A E X C U R
+abbrev pub types : List ℕ
+types = 65 ∷ 69 ∷ 88 ∷ 67 ∷ 85 ∷ 82 ∷ []
+
+-- C F M P B O J N
+abbrev pub capacities : List ℕ
+capacities = 67 ∷ 70 ∷ 77 ∷ 80 ∷ 66 ∷ 79 ∷ 74 ∷ 78 ∷ []
+
+-- O C
+abbrev pub positions : List ℕ
+positions = 79 ∷ 67 ∷ []
+
+-- A R O a r J
+abbrev pub liquidities : List ℕ
+liquidities = 65 ∷ 82 ∷ 79 ∷ 97 ∷ 114 ∷ 74 ∷ []
+
+-- B S
+abbrev pub sides : List ℕ
+sides = 66 ∷ 83 ∷ []
+
+-- A to X
+abbrev pub months : List ℕ
+months = 65 ∷ 66 ∷ 67 ∷ 68 ∷ 69 ∷ 70 ∷ 71 ∷ 72 ∷ 73 ∷ 74 ∷ 75 ∷ 76 ∷ 77 ∷ 78 ∷ 79 ∷ 80 ∷ 81 ∷ 82 ∷ 83 ∷ 84 ∷ 85 ∷ 86 ∷ 87 ∷ 88 ∷ []
+
+-- A to E
+abbrev pub denominators : List ℕ
+denominators = 65 ∷ 66 ∷ 67 ∷ 68 ∷ 69 ∷ []
+
+-- on E and C
+abbrev pub onTrade : ℕ → Rule → Rule → Rule
+onTrade t a b = cond (eqb t 69 || eqb t 67) a b
+
+-- on U
+abbrev pub onReplace : ℕ → Rule → Rule → Rule
+onReplace t a b = cond (eqb t 85) a b
+
+-- 01, The line, Strike: under A to D the first digit isn't 0; under E the digits aren't 000000
+abbrev pub leastStrike : ℕ → ℕ
+leastStrike d = cond (eqb d 69) 1 100000
+
+-- 01, The line: the table, for a type t and a denominator d
+abbrev pub layout : ℕ → ℕ → List Row
+layout t d =
+    row 1 0 8 (number 0 86399999)
+    ∷ row 2 8 1 (code types)
+    ∷ row 3 9 4 (kept text)
+    ∷ row 4 13 1 (code capacities)
+    ∷ row 5 14 1 (code positions)
+    ∷ row 6 15 1 (onTrade t (code liquidities) (kept blank))
+    ∷ row 7 16 4 (kept textOrBlank)
+    ∷ row 8 20 5 (kept digitsOrBlank)
+    ∷ row 9 25 5 (kept digitsOrBlank)
+    ∷ row 10 30 6 (kept text)
+    ∷ row 11 36 20 (kept text)
+    ∷ row 12 56 20 (onReplace t (kept text) (kept blank))
+    ∷ row 13 76 9 (kept hex)
+    ∷ row 14 85 1 (code sides)
+    ∷ row 15 86 6 (number 1 999999)
+    ∷ row 16 92 6 (kept text)
+    ∷ row 17 98 1 (code months)
+    ∷ row 18 99 2 (digits 1 31)
+    ∷ row 19 101 2 (digits 0 99)
+    ∷ row 20 103 1 (code denominators)
+    ∷ row 21 104 6 (digits (leastStrike d) 999999)
+    ∷ row 22 110 10 price
+    ∷ row 23 120 9 (onTrade t (number 0 999999999) (kept blank))
+    ∷ row 24 129 9 (onTrade t (number 0 999999999) (kept blank))
+    ∷ []
+
+-- the bytes of a field
+abbrev pub part : List ℕ → ℕ → ℕ → List ℕ
+part s at len = take len (drop at s)
+
+-- the first field that breaks its rule, or what all fields say
+pub data Fields : Type 0 where
+  breaks : ℕ → Fields
+  say : List Value → Fields
+
+abbrev pub onGot : Got → ℕ → (Value → Fields) → Fields
+onGot (got v) n next = next v
+onGot broken n next = breaks n
+
+-- the fields one after another, behind those that said vs
+abbrev pub readRows : List Row → List Value → List ℕ → Fields
+readRows [] vs s = say vs
+readRows (r ∷ rs) vs s = onGot (reads (r .rule) (part s (r .at) (r .len))) (r .no) (λ v. readRows rs (vs ++ (v ∷ [])) s)
+
+-- the first field whose value is unlawful, or 0
+abbrev pub firstUnlawful : List Row → List Value → ℕ
+firstUnlawful [] vs = 0
+firstUnlawful (r ∷ rs) [] = r .no
+firstUnlawful (r ∷ rs) (v ∷ vs) = cond (lawful (r .rule) (r .len) v) (firstUnlawful rs vs) (r .no)
+
+abbrev pub writeRows : List Row → List Value → List ℕ
+writeRows [] vs = []
+writeRows (r ∷ rs) [] = []
+writeRows (r ∷ rs) (v ∷ vs) = writes (r .rule) (r .len) v ++ writeRows rs vs
+
+-- each field stands right behind the one before, is numbered one more, and what it allows has room
+abbrev pub tiles : ℕ → ℕ → List Row → Bool
+tiles n at [] = true
+tiles n at (r ∷ rs) = eqb (r .no) n && eqb (r .at) at && fits (r .rule) (r .len) && tiles (n + 1) (at + r .len) rs

@@ -1,0 +1,9 @@
+pub mod Clocks
+pub mod Demand2
+pub mod Examples
+pub mod Forms
+pub mod Layout
+pub mod Line
+pub mod Records
+pub mod Rule
+pub mod Strikes

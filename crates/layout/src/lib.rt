@@ -1,0 +1,62 @@
+// What a line says, as code holds it. The written rules of a line stand in specs/, their laws in proofs/.
+
+// What only executions and breaks carry.
+pub struct Trade {
+    pub liquidity: u8,
+    pub match_id: u64,
+    pub cross_id: u64,
+}
+
+pub enum Event {
+    // A
+    Accepted,
+    // E
+    Executed(Trade),
+    // X
+    Cancelled,
+    // C
+    Broken(Trade),
+    // U
+    Replaced,
+    // R
+    Repriced,
+}
+
+// All 24 fields of a line. Numbers stand as numbers, everything else as its bytes.
+pub struct Record {
+    pub timestamp: u64,
+    pub event: Event,
+    pub firm: [u8; 4],
+    pub capacity: u8,
+    pub position: u8,
+    pub account: [u8; 4],
+    pub member: [u8; 5],
+    pub clearing: [u8; 5],
+    pub source: [u8; 6],
+    pub token: [u8; 20],
+    pub replaced: [u8; 20],
+    pub reference: [u8; 9],
+    pub side: u8,
+    pub contracts: u64,
+    pub root: [u8; 6],
+    pub month: u8,
+    pub date: u64,
+    pub year: u64,
+    pub denominator: u8,
+    pub strike: u64,
+    pub price: u64,
+}
+
+// A strike as a line has it.
+pub struct Strike {
+    pub denominator: u8,
+    pub digits: u64,
+}
+
+// A time of day.
+pub struct Clock {
+    pub hours: u64,
+    pub minutes: u64,
+    pub seconds: u64,
+    pub milliseconds: u64,
+}
