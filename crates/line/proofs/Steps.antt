@@ -1,0 +1,182 @@
+-- Reading one field after another: what a field's answer makes of the reading.
+use Prim.Native.Nat.{ℕ, suc, _<_}
+use mathlib.Core.Path.{_≡_, refl, sym, ap, _∙_}
+use mathlib.Core.Bool.{Bool, true, false, cond}
+use mathlib.Core.List.{List, [], _∷_, _++_}
+use mathlib.Core.Logic.{_⊎_, inl, inr}
+use native.Mathlib.Omega.{arith}
+use lib.ListN.{getD, take, drop}
+use lib.Seq.{take-suc, drop-cons}
+use Rattle.field.specs.Kept.{isCode, isBlank}
+use Rattle.field.specs.Kept.{kept as keptAnswer}
+use Rattle.field.specs.declared.Bytes.{Bytes}
+use Rattle.field.specs.declared.Bytes.the-variants.{Lawful, Unlawful}
+use Rattle.field.specs.declared.Number.{Number}
+use Rattle.field.specs.declared.Number.the-variants.{Value as Number·Value, Bad}
+use Rattle.refusal.specs.declared.Refusal.the-variants.{Field}
+use Rattle.layout.specs.Layout.{Row, row, part, breaks, readRows, onGot}
+use Rattle.layout.specs.Line.{rowsOf}
+use Rattle.layout.specs.Records.{numOf}
+use Rattle.layout.specs.Rule.{Rule, number, digits, price, code, kept, blank, Kind, isKind, Value, num, run, Got, got, broken, reads, gotNumber, gotRun}
+use Rattle.line.specs.Groups.{keptGot, keptOn, idOn, idValue, valuesOf, readingOf, readingFrom, refusedReading}
+use Rattle.line.specs.declared.Numbers.{Numbers}
+use Rattle.line.specs.declared.Reading.{Reading}
+
+-- the row, counted from 0, and its value
+abbrev pub rowNo : List ℕ → ℕ → Row
+rowNo s k = getD (rowsOf s) k (row 0 0 0 (kept blank))
+
+abbrev pub valueNo : Numbers → List ℕ → ℕ → Value
+valueNo n s k = getD (valuesOf n s) k (num 0)
+
+step : (r : Row) (rs : List Row) (vs : List Value) (s : List ℕ) (v : Value) → reads (r .rule) (part s (r .at) (r .len)) ≡ got v
+    → readRows (r ∷ rs) vs s ≡ readRows rs (vs ++ (v ∷ [])) s
+step r rs vs s v e = ap (λ (g : Got). onGot g (r .no) (λ (u : Value). readRows rs (vs ++ (u ∷ [])) s)) e
+
+stop : (r : Row) (rs : List Row) (vs : List Value) (s : List ℕ) → reads (r .rule) (part s (r .at) (r .len)) ≡ broken → readRows (r ∷ rs) vs s ≡ breaks (r .no)
+stop r rs vs s e = ap (λ (g : Got). onGot g (r .no) (λ (u : Value). readRows rs (vs ++ (u ∷ [])) s)) e
+
+-- a field that keeps its rule leaves the answer to those behind it
+pub past : (k : ℕ) (n : Numbers) (s : List ℕ) (x : Reading) → k < 24
+    → reads (rowNo s k .rule) (part s (rowNo s k .at) (rowNo s k .len)) ≡ got (valueNo n s k)
+    → x ≡ readingFrom (suc k) n s → x ≡ readingFrom k n s
+past k n s x h e g =
+    g
+    ∙ rw (take-suc (valuesOf n s) k (num 0) h, drop-cons (rowsOf s) k (row 0 0 0 (kept blank)) h)
+    (ap readingOf (sym (step (rowNo s k) (drop (suc k) (rowsOf s)) (take k (valuesOf n s)) s (valueNo n s k) e)))
+
+-- the first that breaks it is named
+pub stops : (k : ℕ) (n : Numbers) (s : List ℕ) (x : Reading) → k < 24
+    → reads (rowNo s k .rule) (part s (rowNo s k .at) (rowNo s k .len)) ≡ broken
+    → x ≡ refusedReading (Field (rowNo s k .no)) → x ≡ readingFrom k n s
+stops k n s x h e g =
+    g
+    ∙ rw (drop-cons (rowsOf s) k (row 0 0 0 (kept blank)) h)
+    (ap readingOf (sym (stop (rowNo s k) (drop (suc k) (rowsOf s)) (take k (valuesOf n s)) s e)))
+
+run-good : (a : Bool) (b : List ℕ) → keptAnswer a ≡ Lawful → gotRun a b ≡ got (run b)
+run-good true b e = refl
+run-good false b e = let z : _≡_ {A = ℕ} 0 1 = cc in absurd (omega arith)
+
+run-bad : (a : Bool) (b : List ℕ) → keptAnswer a ≡ Unlawful → gotRun a b ≡ broken
+run-bad true b e = let z : _≡_ {A = ℕ} 0 1 = cc in absurd (omega arith)
+run-bad false b e = refl
+
+-- ---- what the readers' answers say of a rule
+
+pub kind-good : (k : Kind) (b : List ℕ) (x : Bytes) → x ≡ keptAnswer (isKind k b) → x ≡ Lawful → reads (kept k) b ≡ got (run b)
+kind-good k b x e l = run-good (isKind k b) b (sym e ∙ l)
+
+pub kind-bad : (k : Kind) (b : List ℕ) (x : Bytes) → x ≡ keptAnswer (isKind k b) → x ≡ Unlawful → reads (kept k) b ≡ broken
+kind-bad k b x e l = run-bad (isKind k b) b (sym e ∙ l)
+
+pub code-good : (codes b : List ℕ) (x : Bytes) → x ≡ keptAnswer (isCode codes b) → x ≡ Lawful → reads (code codes) b ≡ got (run b)
+code-good codes b x e l = run-good (isCode codes b) b (sym e ∙ l)
+
+pub code-bad : (codes b : List ℕ) (x : Bytes) → x ≡ keptAnswer (isCode codes b) → x ≡ Unlawful → reads (code codes) b ≡ broken
+code-bad codes b x e l = run-bad (isCode codes b) b (sym e ∙ l)
+
+pub value-good : (n x : Number) (v : ℕ) → x ≡ n → x ≡ Number·Value v → gotNumber n ≡ got (num v)
+value-good n x v e l = ap gotNumber (sym e ∙ l)
+
+pub value-bad : (n x : Number) → x ≡ n → x ≡ Bad → gotNumber n ≡ broken
+value-bad n x e l = ap gotNumber (sym e ∙ l)
+
+-- a field that stands on some types only; both its rules keep bytes
+got-lawful : (g : Got) (b : List ℕ) → (g ≡ got (run b)) ⊎ (g ≡ broken) → keptGot g ≡ Lawful → g ≡ got (run b)
+got-lawful g b (inl e) l = e
+got-lawful g b (inr e) l = let z : _≡_ {A = ℕ} 0 1 = cc in absurd (omega arith)
+
+got-unlawful : (g : Got) → keptGot g ≡ Unlawful → g ≡ broken
+got-unlawful (got v) l = let z : _≡_ {A = ℕ} 0 1 = cc in absurd (omega arith)
+got-unlawful broken l = refl
+
+run-or-not : (a : Bool) (b : List ℕ) → (gotRun a b ≡ got (run b)) ⊎ (gotRun a b ≡ broken)
+run-or-not true b = inl refl
+run-or-not false b = inr refl
+
+code-or-blank : (on : Bool) (codes b : List ℕ) → (reads (cond on (code codes) (kept blank)) b ≡ got (run b)) ⊎ (reads (cond on (code codes) (kept blank)) b ≡ broken)
+code-or-blank true codes b = run-or-not (isCode codes b) b
+code-or-blank false codes b = run-or-not (isBlank b) b
+
+kind-or-blank : (on : Bool) (k : Kind) (b : List ℕ) → (reads (cond on (kept k) (kept blank)) b ≡ got (run b)) ⊎ (reads (cond on (kept k) (kept blank)) b ≡ broken)
+kind-or-blank true k b = run-or-not (isKind k b) b
+kind-or-blank false k b = run-or-not (isBlank b) b
+
+pub code-on-good : (on : Bool) (codes b : List ℕ) (x : Bytes) → x ≡ keptOn on (code codes) b → x ≡ Lawful → reads (cond on (code codes) (kept blank)) b ≡ got (run b)
+code-on-good on codes b x e l = got-lawful _ b (code-or-blank on codes b) (sym e ∙ l)
+
+pub kind-on-good : (on : Bool) (k : Kind) (b : List ℕ) (x : Bytes) → x ≡ keptOn on (kept k) b → x ≡ Lawful → reads (cond on (kept k) (kept blank)) b ≡ got (run b)
+kind-on-good on k b x e l = got-lawful _ b (kind-or-blank on k b) (sym e ∙ l)
+
+pub on-bad : (on : Bool) (rule : Rule) (b : List ℕ) (x : Bytes) → x ≡ keptOn on rule b → x ≡ Unlawful → reads (cond on rule (kept blank)) b ≡ broken
+on-bad on rule b x e l = got-unlawful _ (sym e ∙ l)
+
+pub id-good : (on : Bool) (b : List ℕ) (x : Number) (v : ℕ) → x ≡ idOn on b → x ≡ Number·Value v → reads (cond on (number 0 999999999) (kept blank)) b ≡ got (idValue on v b)
+id-good true b x v e l = ap gotNumber (sym e ∙ l)
+id-good false b x v e l = by-test (isBlank b) (sym e ∙ l)
+  where
+    by-test : (a : Bool) → cond a (Number·Value 0) Bad ≡ Number·Value v → gotRun a b ≡ got (run b)
+    by-test true q = refl
+    by-test false q = let z : _≡_ {A = ℕ} 0 1 = cc in absurd (omega arith)
+
+pub id-bad : (on : Bool) (b : List ℕ) (x : Number) → x ≡ idOn on b → x ≡ Bad → reads (cond on (number 0 999999999) (kept blank)) b ≡ broken
+id-bad true b x e l = ap gotNumber (sym e ∙ l)
+id-bad false b x e l = by-test (isBlank b) (sym e ∙ l)
+  where
+    by-test : (a : Bool) → cond a (Number·Value 0) Bad ≡ Bad → gotRun a b ≡ broken
+    by-test true q = let z : _≡_ {A = ℕ} 0 1 = cc in absurd (omega arith)
+    by-test false q = refl
+
+-- a missing id is 0
+pub id-number : (on : Bool) (b : List ℕ) (x : Number) (v : ℕ) → x ≡ idOn on b → x ≡ Number·Value v → v ≡ numOf (idValue on v b)
+id-number true b x v e l = refl
+id-number false b x v e l = by-test (isBlank b) (sym e ∙ l)
+  where
+    by-test : (a : Bool) → cond a (Number·Value 0) Bad ≡ Number·Value v → v ≡ 0
+    by-test true q = cc
+    by-test false q = let z : _≡_ {A = ℕ} 0 1 = cc in absurd (omega arith)
+
+-- ---- the numbers of a line as they are read
+
+abbrev pub withTimestamp : ℕ → Numbers
+withTimestamp t = record { timestamp = t; contracts = 0; date = 0; year = 0; strike = 0; price = 0; «match_id» = 0; «cross_id» = 0 }
+
+abbrev pub withContracts : Numbers → ℕ → Numbers
+withContracts n v =
+    record {
+      timestamp = n .timestamp;
+      contracts = v;
+      date = n .date;
+      year = n .year;
+      strike = n .strike;
+      price = n .price;
+      «match_id» = n .«match_id»;
+      «cross_id» = n .«cross_id»;
+    }
+
+abbrev pub withSeries : Numbers → ℕ → ℕ → ℕ → ℕ → Numbers
+withSeries n d y k p =
+    record {
+      timestamp = n .timestamp;
+      contracts = n .contracts;
+      date = d;
+      year = y;
+      strike = k;
+      price = p;
+      «match_id» = n .«match_id»;
+      «cross_id» = n .«cross_id»;
+    }
+
+abbrev pub withIds : Numbers → ℕ → ℕ → Numbers
+withIds n m x =
+    record {
+      timestamp = n .timestamp;
+      contracts = n .contracts;
+      date = n .date;
+      year = n .year;
+      strike = n .strike;
+      price = n .price;
+      «match_id» = m;
+      «cross_id» = x;
+    }

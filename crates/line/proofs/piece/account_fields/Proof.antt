@@ -1,0 +1,261 @@
+-- `line::piece::account_fields` meets its contract.
+use borrow.Author.Needs.{needs}
+use denote.Ref.{now}
+use lib.Dec.{lit<, eqb}
+use lib.ListN.{getD}
+use Rattle.layout.specs.Rule.{kept, text, textOrBlank, digitsOrBlank}
+use Rattle.layout.specs.Layout.{part}
+use Rattle.line.proofs.Steps.{past, stops, kind-good, kind-bad, kind-on-good, on-bad}
+use Rattle.line.proofs.piece.account_fields.Statement.{statement}
+use Rattle.line.proofs.piece.account_fields.Tie as tie
+
+sub-text-or-blank : tie.Need-sub-text-or-blank
+sub-text-or-blank c = search needs
+
+part-text-or-blank-start : tie.Need-part-text-or-blank-start
+part-text-or-blank-start c = search needs
+
+part-text-or-blank-end : tie.Need-part-text-or-blank-end
+part-text-or-blank-end c = search needs
+
+text-or-blank-requires : tie.Need-text-or-blank-requires
+text-or-blank-requires c κs = search needs
+
+enum-told : tie.Need-enum-told
+enum-told c = search needs
+
+enum-told-2 : tie.Need-enum-told-2
+enum-told-2 c = search needs
+
+refused-requires : tie.Need-refused-requires
+refused-requires c κs = search needs
+
+returns : tie.Need-returns
+returns c =
+    let s = now (c .before .before .before .before .before .before .args .s) in
+    let n = c .before .before .before .before .before .before .args .n in
+    stops 6 n s _ (lit< tt) (kind-bad textOrBlank (part s 16 4) _ (c .before .before .before .text-or-blank .ensures) (c .before .enum-told2 .given .1)) (c .refused .ensures)
+
+sub-digits-or-blank : tie.Need-sub-digits-or-blank
+sub-digits-or-blank c = search needs
+
+part-digits-or-blank-start : tie.Need-part-digits-or-blank-start
+part-digits-or-blank-start c = search needs
+
+part-digits-or-blank-end : tie.Need-part-digits-or-blank-end
+part-digits-or-blank-end c = search needs
+
+digits-or-blank-requires : tie.Need-digits-or-blank-requires
+digits-or-blank-requires c κs = search needs
+
+enum-told-3 : tie.Need-enum-told-3
+enum-told-3 c = search needs
+
+enum-told-4 : tie.Need-enum-told-4
+enum-told-4 c = search needs
+
+refused-requires-2 : tie.Need-refused-requires-2
+refused-requires-2 c κs = search needs
+
+returns-2 : tie.Need-returns-2
+returns-2 c =
+    let s = now (c .before .before .before .before .before .before .before .before .before .before .args .s) in
+    let n = c .before .before .before .before .before .before .before .before .before .before .args .n in
+    past 6 n s _ (lit< tt) (kind-good textOrBlank (part s 16 4) _ (c .before .before .before .before .before .before .before .text-or-blank .ensures) (c .before .before .before .before .before .enum-told .given .1))
+    (stops 7 n s _ (lit< tt) (kind-bad digitsOrBlank (part s 20 5) _ (c .before .before .before .digits-or-blank .ensures) (c .before .enum-told4 .given .1)) (c .refused2 .ensures))
+
+sub-digits-or-blank-2 : tie.Need-sub-digits-or-blank-2
+sub-digits-or-blank-2 c = search needs
+
+part-digits-or-blank-start-2 : tie.Need-part-digits-or-blank-start-2
+part-digits-or-blank-start-2 c = search needs
+
+part-digits-or-blank-end-2 : tie.Need-part-digits-or-blank-end-2
+part-digits-or-blank-end-2 c = search needs
+
+digits-or-blank-requires-2 : tie.Need-digits-or-blank-requires-2
+digits-or-blank-requires-2 c κs = search needs
+
+enum-told-5 : tie.Need-enum-told-5
+enum-told-5 c = search needs
+
+enum-told-6 : tie.Need-enum-told-6
+enum-told-6 c = search needs
+
+refused-requires-3 : tie.Need-refused-requires-3
+refused-requires-3 c κs = search needs
+
+returns-3 : tie.Need-returns-3
+returns-3 c =
+    let s = now (c .before .before .before .before .before .before .before .before .before .before .before .before .before .before .args .s) in
+    let n = c .before .before .before .before .before .before .before .before .before .before .before .before .before .before .args .n in
+    past 6 n s _ (lit< tt) (kind-good textOrBlank (part s 16 4) _ (c .before .before .before .before .before .before .before .before .before .before .before .text-or-blank .ensures) (c .before .before .before .before .before .before .before .before .before .enum-told .given .1))
+    (past 7 n s _ (lit< tt) (kind-good digitsOrBlank (part s 20 5) _ (c .before .before .before .before .before .before .before .digits-or-blank .ensures) (c .before .before .before .before .before .enum-told3 .given .1))
+    (stops 8 n s _ (lit< tt) (kind-bad digitsOrBlank (part s 25 5) _ (c .before .before .before .digits-or-blank2 .ensures) (c .before .enum-told6 .given .1)) (c .refused3 .ensures)))
+
+sub-text : tie.Need-sub-text
+sub-text c = search needs
+
+part-text-start : tie.Need-part-text-start
+part-text-start c = search needs
+
+part-text-end : tie.Need-part-text-end
+part-text-end c = search needs
+
+text-requires : tie.Need-text-requires
+text-requires c κs = search needs
+
+enum-told-7 : tie.Need-enum-told-7
+enum-told-7 c = search needs
+
+enum-told-8 : tie.Need-enum-told-8
+enum-told-8 c = search needs
+
+refused-requires-4 : tie.Need-refused-requires-4
+refused-requires-4 c κs = search needs
+
+returns-4 : tie.Need-returns-4
+returns-4 c =
+    let s = now (c .before .before .before .before .before .before .before .before .before .before .before .before .before .before .before .before .before .before .args .s) in
+    let n = c .before .before .before .before .before .before .before .before .before .before .before .before .before .before .before .before .before .before .args .n in
+    past 6 n s _ (lit< tt) (kind-good textOrBlank (part s 16 4) _ (c .before .before .before .before .before .before .before .before .before .before .before .before .before .before .before .text-or-blank .ensures) (c .before .before .before .before .before .before .before .before .before .before .before .before .before .enum-told .given .1))
+    (past 7 n s _ (lit< tt) (kind-good digitsOrBlank (part s 20 5) _ (c .before .before .before .before .before .before .before .before .before .before .before .digits-or-blank .ensures) (c .before .before .before .before .before .before .before .before .before .enum-told3 .given .1))
+    (past 8 n s _ (lit< tt) (kind-good digitsOrBlank (part s 25 5) _ (c .before .before .before .before .before .before .before .digits-or-blank2 .ensures) (c .before .before .before .before .before .enum-told5 .given .1))
+    (stops 9 n s _ (lit< tt) (kind-bad text (part s 30 6) _ (c .before .before .before .text .ensures) (c .before .enum-told8 .given .1)) (c .refused4 .ensures))))
+
+sub-text-2 : tie.Need-sub-text-2
+sub-text-2 c = search needs
+
+part-text-start-2 : tie.Need-part-text-start-2
+part-text-start-2 c = search needs
+
+part-text-end-2 : tie.Need-part-text-end-2
+part-text-end-2 c = search needs
+
+text-requires-2 : tie.Need-text-requires-2
+text-requires-2 c κs = search needs
+
+enum-told-9 : tie.Need-enum-told-9
+enum-told-9 c = search needs
+
+enum-told-10 : tie.Need-enum-told-10
+enum-told-10 c = search needs
+
+refused-requires-5 : tie.Need-refused-requires-5
+refused-requires-5 c κs = search needs
+
+returns-5 : tie.Need-returns-5
+returns-5 c =
+    let s = now (c .before .before .before .before .before .before .before .before .before .before .before .before .before .before .before .before .before .before .before .before .before .before .args .s) in
+    let n = c .before .before .before .before .before .before .before .before .before .before .before .before .before .before .before .before .before .before .before .before .before .before .args .n in
+    past 6 n s _ (lit< tt) (kind-good textOrBlank (part s 16 4) _ (c .before .before .before .before .before .before .before .before .before .before .before .before .before .before .before .before .before .before .before .text-or-blank .ensures) (c .before .before .before .before .before .before .before .before .before .before .before .before .before .before .before .before .before .enum-told .given .1))
+    (past 7 n s _ (lit< tt) (kind-good digitsOrBlank (part s 20 5) _ (c .before .before .before .before .before .before .before .before .before .before .before .before .before .before .before .digits-or-blank .ensures) (c .before .before .before .before .before .before .before .before .before .before .before .before .before .enum-told3 .given .1))
+    (past 8 n s _ (lit< tt) (kind-good digitsOrBlank (part s 25 5) _ (c .before .before .before .before .before .before .before .before .before .before .before .digits-or-blank2 .ensures) (c .before .before .before .before .before .before .before .before .before .enum-told5 .given .1))
+    (past 9 n s _ (lit< tt) (kind-good text (part s 30 6) _ (c .before .before .before .before .before .before .before .text .ensures) (c .before .before .before .before .before .enum-told7 .given .1))
+    (stops 10 n s _ (lit< tt) (kind-bad text (part s 36 20) _ (c .before .before .before .text2 .ensures) (c .before .enum-told10 .given .1)) (c .refused5 .ensures)))))
+
+sub-replaced : tie.Need-sub-replaced
+sub-replaced c = search needs
+
+part-replaced-start : tie.Need-part-replaced-start
+part-replaced-start c = search needs
+
+part-replaced-end : tie.Need-part-replaced-end
+part-replaced-end c = search needs
+
+shared-slice-read-replaced : tie.Need-shared-slice-read-replaced
+shared-slice-read-replaced c = search needs
+
+replaced-requires : tie.Need-replaced-requires
+replaced-requires c κs = search needs
+
+enum-told-11 : tie.Need-enum-told-11
+enum-told-11 c = search needs
+
+enum-told-12 : tie.Need-enum-told-12
+enum-told-12 c = search needs
+
+refused-requires-6 : tie.Need-refused-requires-6
+refused-requires-6 c κs = search needs
+
+returns-6 : tie.Need-returns-6
+returns-6 c =
+    let s = now (c .before .before .before .before .before .before .before .before .before .before .before .before .before .before .before .before .before .before .before .before .before .before .before .before .before .before .before .args .s) in
+    let n = c .before .before .before .before .before .before .before .before .before .before .before .before .before .before .before .before .before .before .before .before .before .before .before .before .before .before .before .args .n in
+    past 6 n s _ (lit< tt) (kind-good textOrBlank (part s 16 4) _ (c .before .before .before .before .before .before .before .before .before .before .before .before .before .before .before .before .before .before .before .before .before .before .before .before .text-or-blank .ensures) (c .before .before .before .before .before .before .before .before .before .before .before .before .before .before .before .before .before .before .before .before .before .before .enum-told .given .1))
+    (past 7 n s _ (lit< tt) (kind-good digitsOrBlank (part s 20 5) _ (c .before .before .before .before .before .before .before .before .before .before .before .before .before .before .before .before .before .before .before .before .digits-or-blank .ensures) (c .before .before .before .before .before .before .before .before .before .before .before .before .before .before .before .before .before .before .enum-told3 .given .1))
+    (past 8 n s _ (lit< tt) (kind-good digitsOrBlank (part s 25 5) _ (c .before .before .before .before .before .before .before .before .before .before .before .before .before .before .before .before .digits-or-blank2 .ensures) (c .before .before .before .before .before .before .before .before .before .before .before .before .before .before .enum-told5 .given .1))
+    (past 9 n s _ (lit< tt) (kind-good text (part s 30 6) _ (c .before .before .before .before .before .before .before .before .before .before .before .before .text .ensures) (c .before .before .before .before .before .before .before .before .before .before .enum-told7 .given .1))
+    (past 10 n s _ (lit< tt) (kind-good text (part s 36 20) _ (c .before .before .before .before .before .before .before .before .text2 .ensures) (c .before .before .before .before .before .before .enum-told9 .given .1))
+    (stops 11 n s _ (lit< tt) (on-bad (eqb (getD s 8 0) 85) (kept text) (part s 56 20) _ (c .before .before .before .replaced .ensures) (c .before .enum-told12 .given .1)) (c .refused6 .ensures))))))
+
+order-fields-requires : tie.Need-order-fields-requires
+order-fields-requires c κs = search needs
+
+returns-7 : tie.Need-returns-7
+returns-7 c =
+    let s = now (c .before .before .before .before .before .before .before .before .before .before .before .before .before .before .before .before .before .before .before .before .before .before .before .before .before .before .before .args .s) in
+    let n = c .before .before .before .before .before .before .before .before .before .before .before .before .before .before .before .before .before .before .before .before .before .before .before .before .before .before .before .args .n in
+    past 6 n s _ (lit< tt) (kind-good textOrBlank (part s 16 4) _ (c .before .before .before .before .before .before .before .before .before .before .before .before .before .before .before .before .before .before .before .before .before .before .before .before .text-or-blank .ensures) (c .before .before .before .before .before .before .before .before .before .before .before .before .before .before .before .before .before .before .before .before .before .before .enum-told .given .1))
+    (past 7 n s _ (lit< tt) (kind-good digitsOrBlank (part s 20 5) _ (c .before .before .before .before .before .before .before .before .before .before .before .before .before .before .before .before .before .before .before .before .digits-or-blank .ensures) (c .before .before .before .before .before .before .before .before .before .before .before .before .before .before .before .before .before .before .enum-told3 .given .1))
+    (past 8 n s _ (lit< tt) (kind-good digitsOrBlank (part s 25 5) _ (c .before .before .before .before .before .before .before .before .before .before .before .before .before .before .before .before .digits-or-blank2 .ensures) (c .before .before .before .before .before .before .before .before .before .before .before .before .before .before .enum-told5 .given .1))
+    (past 9 n s _ (lit< tt) (kind-good text (part s 30 6) _ (c .before .before .before .before .before .before .before .before .before .before .before .before .text .ensures) (c .before .before .before .before .before .before .before .before .before .before .enum-told7 .given .1))
+    (past 10 n s _ (lit< tt) (kind-good text (part s 36 20) _ (c .before .before .before .before .before .before .before .before .text2 .ensures) (c .before .before .before .before .before .before .enum-told9 .given .1))
+    (past 11 n s _ (lit< tt) (kind-on-good (eqb (getD s 8 0) 85) text (part s 56 20) _ (c .before .before .before .replaced .ensures) (c .before .enum-told11 .given .1))
+    (c .order-fields .ensures))))))
+
+pub account-fields-spec : {M : Type 1} → statement M
+account-fields-spec =
+    tie.close
+    (tie.spec
+    sub-text-or-blank
+    part-text-or-blank-start
+    part-text-or-blank-end
+    text-or-blank-requires
+    enum-told
+    enum-told-2
+    refused-requires
+    returns
+    sub-digits-or-blank
+    part-digits-or-blank-start
+    part-digits-or-blank-end
+    digits-or-blank-requires
+    enum-told-3
+    enum-told-4
+    refused-requires-2
+    returns-2
+    sub-digits-or-blank-2
+    part-digits-or-blank-start-2
+    part-digits-or-blank-end-2
+    digits-or-blank-requires-2
+    enum-told-5
+    enum-told-6
+    refused-requires-3
+    returns-3
+    sub-text
+    part-text-start
+    part-text-end
+    text-requires
+    enum-told-7
+    enum-told-8
+    refused-requires-4
+    returns-4
+    sub-text-2
+    part-text-start-2
+    part-text-end-2
+    text-requires-2
+    enum-told-9
+    enum-told-10
+    refused-requires-5
+    returns-5
+    sub-replaced
+    part-replaced-start
+    part-replaced-end
+    shared-slice-read-replaced
+    replaced-requires
+    enum-told-11
+    enum-told-12
+    refused-requires-6
+    returns-6
+    order-fields-requires
+    returns-7)

@@ -1,0 +1,281 @@
+-- `line::piece::event_fields` meets its contract.
+use mathlib.Core.Bool.{Bool}
+use mathlib.Core.Path.{_∙_, ap}
+use borrow.Author.Needs.{needs}
+use denote.Ref.{now}
+use lib.Dec.{lit<}
+use lib.ListN.{getD}
+use Rattle.line.specs.Groups.{isTrade, keptOn, noNumbers}
+use Rattle.layout.specs.Rule.{number, code, text}
+use Rattle.layout.specs.Layout.{part, types, capacities, positions, liquidities}
+use Rattle.field.specs.Number.{number as readNumber}
+use Rattle.line.proofs.Steps.{withTimestamp, past, stops, kind-good, kind-bad, code-good, code-bad, value-good, value-bad, code-on-good, on-bad}
+use Rattle.line.proofs.piece.event_fields.Statement.{statement}
+use Rattle.line.proofs.piece.event_fields.Tie as tie
+
+sub-number : tie.Need-sub-number
+sub-number c = search needs
+
+part-number-start : tie.Need-part-number-start
+part-number-start c = search needs
+
+part-number-end : tie.Need-part-number-end
+part-number-end c = search needs
+
+number-requires : tie.Need-number-requires
+number-requires c κs = search needs
+
+enum-known-timestamp : tie.Need-enum-known-timestamp
+enum-known-timestamp c = search needs
+
+enum-told : tie.Need-enum-told
+enum-told c = search needs
+
+refused-requires : tie.Need-refused-requires
+refused-requires c κs = search needs
+
+returns : tie.Need-returns
+returns c =
+    let s = now (c .before .before .before .before .before .before .args .s) in
+    let n = noNumbers in
+    stops 0 n s _ (lit< tt) (value-bad (readNumber 0 86399999 (part s 0 8)) _ (c .before .before .before .number .ensures) (c .before .enum-told .given .1)) (c .refused .ensures)
+
+sub-code : tie.Need-sub-code
+sub-code c = search needs
+
+part-code-start : tie.Need-part-code-start
+part-code-start c = search needs
+
+part-code-end : tie.Need-part-code-end
+part-code-end c = search needs
+
+slice-aggregate-code : tie.Need-slice-aggregate-code
+slice-aggregate-code c = search needs
+
+code-requires : tie.Need-code-requires
+code-requires c κs = search needs
+
+enum-told-2 : tie.Need-enum-told-2
+enum-told-2 c = search needs
+
+enum-told-3 : tie.Need-enum-told-3
+enum-told-3 c = search needs
+
+refused-requires-2 : tie.Need-refused-requires-2
+refused-requires-2 c κs = search needs
+
+returns-2 : tie.Need-returns-2
+returns-2 c =
+    let s = now (c .before .before .before .before .before .before .before .before .before .before .before .before .args .s) in
+    let n = withTimestamp (c .before .before .before .before .before .before .before .timestamp .given .0 .0) in
+    past 0 n s _ (lit< tt) (value-good (readNumber 0 86399999 (part s 0 8)) _ _ (c .before .before .before .before .before .before .before .before .before .number .ensures) (c .before .before .before .before .before .before .before .timestamp .given .1))
+    (stops 1 n s _ (lit< tt) (code-bad types (part s 8 1) _ (c .before .before .before .code .ensures) (c .before .enum-told3 .given .1)) (c .refused2 .ensures))
+
+sub-text : tie.Need-sub-text
+sub-text c = search needs
+
+part-text-start : tie.Need-part-text-start
+part-text-start c = search needs
+
+part-text-end : tie.Need-part-text-end
+part-text-end c = search needs
+
+text-requires : tie.Need-text-requires
+text-requires c κs = search needs
+
+enum-told-4 : tie.Need-enum-told-4
+enum-told-4 c = search needs
+
+enum-told-5 : tie.Need-enum-told-5
+enum-told-5 c = search needs
+
+refused-requires-3 : tie.Need-refused-requires-3
+refused-requires-3 c κs = search needs
+
+returns-3 : tie.Need-returns-3
+returns-3 c =
+    let s = now (c .before .before .before .before .before .before .before .before .before .before .before .before .before .before .before .before .args .s) in
+    let n = withTimestamp (c .before .before .before .before .before .before .before .before .before .before .before .timestamp .given .0 .0) in
+    past 0 n s _ (lit< tt) (value-good (readNumber 0 86399999 (part s 0 8)) _ _ (c .before .before .before .before .before .before .before .before .before .before .before .before .before .number .ensures) (c .before .before .before .before .before .before .before .before .before .before .before .timestamp .given .1))
+    (past 1 n s _ (lit< tt) (code-good types (part s 8 1) _ (c .before .before .before .before .before .before .before .code .ensures) (c .before .before .before .before .before .enum-told2 .given .1))
+    (stops 2 n s _ (lit< tt) (kind-bad text (part s 9 4) _ (c .before .before .before .text .ensures) (c .before .enum-told5 .given .1)) (c .refused3 .ensures)))
+
+sub-code-2 : tie.Need-sub-code-2
+sub-code-2 c = search needs
+
+part-code-start-2 : tie.Need-part-code-start-2
+part-code-start-2 c = search needs
+
+part-code-end-2 : tie.Need-part-code-end-2
+part-code-end-2 c = search needs
+
+slice-aggregate-code-2 : tie.Need-slice-aggregate-code-2
+slice-aggregate-code-2 c = search needs
+
+code-requires-2 : tie.Need-code-requires-2
+code-requires-2 c κs = search needs
+
+enum-told-6 : tie.Need-enum-told-6
+enum-told-6 c = search needs
+
+enum-told-7 : tie.Need-enum-told-7
+enum-told-7 c = search needs
+
+refused-requires-4 : tie.Need-refused-requires-4
+refused-requires-4 c κs = search needs
+
+returns-4 : tie.Need-returns-4
+returns-4 c =
+    let s = now (c .before .before .before .before .before .before .before .before .before .before .before .before .before .before .before .before .before .before .before .before .before .args .s) in
+    let n = withTimestamp (c .before .before .before .before .before .before .before .before .before .before .before .before .before .before .before .before .timestamp .given .0 .0) in
+    past 0 n s _ (lit< tt) (value-good (readNumber 0 86399999 (part s 0 8)) _ _ (c .before .before .before .before .before .before .before .before .before .before .before .before .before .before .before .before .before .before .number .ensures) (c .before .before .before .before .before .before .before .before .before .before .before .before .before .before .before .before .timestamp .given .1))
+    (past 1 n s _ (lit< tt) (code-good types (part s 8 1) _ (c .before .before .before .before .before .before .before .before .before .before .before .before .code .ensures) (c .before .before .before .before .before .before .before .before .before .before .enum-told2 .given .1))
+    (past 2 n s _ (lit< tt) (kind-good text (part s 9 4) _ (c .before .before .before .before .before .before .before .before .text .ensures) (c .before .before .before .before .before .before .enum-told4 .given .1))
+    (stops 3 n s _ (lit< tt) (code-bad capacities (part s 13 1) _ (c .before .before .before .code2 .ensures) (c .before .enum-told7 .given .1)) (c .refused4 .ensures))))
+
+sub-code-3 : tie.Need-sub-code-3
+sub-code-3 c = search needs
+
+part-code-start-3 : tie.Need-part-code-start-3
+part-code-start-3 c = search needs
+
+part-code-end-3 : tie.Need-part-code-end-3
+part-code-end-3 c = search needs
+
+slice-aggregate-code-3 : tie.Need-slice-aggregate-code-3
+slice-aggregate-code-3 c = search needs
+
+code-requires-3 : tie.Need-code-requires-3
+code-requires-3 c κs = search needs
+
+enum-told-8 : tie.Need-enum-told-8
+enum-told-8 c = search needs
+
+enum-told-9 : tie.Need-enum-told-9
+enum-told-9 c = search needs
+
+refused-requires-5 : tie.Need-refused-requires-5
+refused-requires-5 c κs = search needs
+
+returns-5 : tie.Need-returns-5
+returns-5 c =
+    let s = now (c .before .before .before .before .before .before .before .before .before .before .before .before .before .before .before .before .before .before .before .before .before .before .before .before .before .before .args .s) in
+    let n = withTimestamp (c .before .before .before .before .before .before .before .before .before .before .before .before .before .before .before .before .before .before .before .before .before .timestamp .given .0 .0) in
+    past 0 n s _ (lit< tt) (value-good (readNumber 0 86399999 (part s 0 8)) _ _ (c .before .before .before .before .before .before .before .before .before .before .before .before .before .before .before .before .before .before .before .before .before .before .before .number .ensures) (c .before .before .before .before .before .before .before .before .before .before .before .before .before .before .before .before .before .before .before .before .before .timestamp .given .1))
+    (past 1 n s _ (lit< tt) (code-good types (part s 8 1) _ (c .before .before .before .before .before .before .before .before .before .before .before .before .before .before .before .before .before .code .ensures) (c .before .before .before .before .before .before .before .before .before .before .before .before .before .before .before .enum-told2 .given .1))
+    (past 2 n s _ (lit< tt) (kind-good text (part s 9 4) _ (c .before .before .before .before .before .before .before .before .before .before .before .before .before .text .ensures) (c .before .before .before .before .before .before .before .before .before .before .before .enum-told4 .given .1))
+    (past 3 n s _ (lit< tt) (code-good capacities (part s 13 1) _ (c .before .before .before .before .before .before .before .before .code2 .ensures) (c .before .before .before .before .before .before .enum-told6 .given .1))
+    (stops 4 n s _ (lit< tt) (code-bad positions (part s 14 1) _ (c .before .before .before .code3 .ensures) (c .before .enum-told9 .given .1)) (c .refused5 .ensures)))))
+
+sub-liquidity : tie.Need-sub-liquidity
+sub-liquidity c = search needs
+
+part-liquidity-start : tie.Need-part-liquidity-start
+part-liquidity-start c = search needs
+
+part-liquidity-end : tie.Need-part-liquidity-end
+part-liquidity-end c = search needs
+
+shared-slice-read-is-trade : tie.Need-shared-slice-read-is-trade
+shared-slice-read-is-trade c = search needs
+
+is-trade-requires : tie.Need-is-trade-requires
+is-trade-requires c κs = search needs
+
+liquidity-requires : tie.Need-liquidity-requires
+liquidity-requires c κs = search needs
+
+enum-told-10 : tie.Need-enum-told-10
+enum-told-10 c = search needs
+
+enum-told-11 : tie.Need-enum-told-11
+enum-told-11 c = search needs
+
+refused-requires-6 : tie.Need-refused-requires-6
+refused-requires-6 c κs = search needs
+
+returns-6 : tie.Need-returns-6
+returns-6 c =
+    let s = now (c .before .before .before .before .before .before .before .before .before .before .before .before .before .before .before .before .before .before .before .before .before .before .before .before .before .before .before .before .before .before .before .before .args .s) in
+    let n = withTimestamp (c .before .before .before .before .before .before .before .before .before .before .before .before .before .before .before .before .before .before .before .before .before .before .before .before .before .before .before .timestamp .given .0 .0) in
+    past 0 n s _ (lit< tt) (value-good (readNumber 0 86399999 (part s 0 8)) _ _ (c .before .before .before .before .before .before .before .before .before .before .before .before .before .before .before .before .before .before .before .before .before .before .before .before .before .before .before .before .before .number .ensures) (c .before .before .before .before .before .before .before .before .before .before .before .before .before .before .before .before .before .before .before .before .before .before .before .before .before .before .before .timestamp .given .1))
+    (past 1 n s _ (lit< tt) (code-good types (part s 8 1) _ (c .before .before .before .before .before .before .before .before .before .before .before .before .before .before .before .before .before .before .before .before .before .before .before .code .ensures) (c .before .before .before .before .before .before .before .before .before .before .before .before .before .before .before .before .before .before .before .before .before .enum-told2 .given .1))
+    (past 2 n s _ (lit< tt) (kind-good text (part s 9 4) _ (c .before .before .before .before .before .before .before .before .before .before .before .before .before .before .before .before .before .before .before .text .ensures) (c .before .before .before .before .before .before .before .before .before .before .before .before .before .before .before .before .before .enum-told4 .given .1))
+    (past 3 n s _ (lit< tt) (code-good capacities (part s 13 1) _ (c .before .before .before .before .before .before .before .before .before .before .before .before .before .before .code2 .ensures) (c .before .before .before .before .before .before .before .before .before .before .before .before .enum-told6 .given .1))
+    (past 4 n s _ (lit< tt) (code-good positions (part s 14 1) _ (c .before .before .before .before .before .before .before .before .before .code3 .ensures) (c .before .before .before .before .before .before .before .enum-told8 .given .1))
+    (stops 5 n s _ (lit< tt) (on-bad (isTrade (getD s 8 0)) (code liquidities) (part s 15 1) _ (c .before .before .before .liquidity .ensures ∙ ap (λ (t : Bool). keptOn t (code liquidities) (part s 15 1)) (c .before .before .before .before .is-trade .ensures)) (c .before .enum-told11 .given .1)) (c .refused6 .ensures))))))
+
+account-fields-requires : tie.Need-account-fields-requires
+account-fields-requires c κs = search needs
+
+returns-7 : tie.Need-returns-7
+returns-7 c =
+    let s = now (c .before .before .before .before .before .before .before .before .before .before .before .before .before .before .before .before .before .before .before .before .before .before .before .before .before .before .before .before .before .before .before .before .args .s) in
+    let n = withTimestamp (c .before .before .before .before .before .before .before .before .before .before .before .before .before .before .before .before .before .before .before .before .before .before .before .before .before .before .before .timestamp .given .0 .0) in
+    past 0 n s _ (lit< tt) (value-good (readNumber 0 86399999 (part s 0 8)) _ _ (c .before .before .before .before .before .before .before .before .before .before .before .before .before .before .before .before .before .before .before .before .before .before .before .before .before .before .before .before .before .number .ensures) (c .before .before .before .before .before .before .before .before .before .before .before .before .before .before .before .before .before .before .before .before .before .before .before .before .before .before .before .timestamp .given .1))
+    (past 1 n s _ (lit< tt) (code-good types (part s 8 1) _ (c .before .before .before .before .before .before .before .before .before .before .before .before .before .before .before .before .before .before .before .before .before .before .before .code .ensures) (c .before .before .before .before .before .before .before .before .before .before .before .before .before .before .before .before .before .before .before .before .before .enum-told2 .given .1))
+    (past 2 n s _ (lit< tt) (kind-good text (part s 9 4) _ (c .before .before .before .before .before .before .before .before .before .before .before .before .before .before .before .before .before .before .before .text .ensures) (c .before .before .before .before .before .before .before .before .before .before .before .before .before .before .before .before .before .enum-told4 .given .1))
+    (past 3 n s _ (lit< tt) (code-good capacities (part s 13 1) _ (c .before .before .before .before .before .before .before .before .before .before .before .before .before .before .code2 .ensures) (c .before .before .before .before .before .before .before .before .before .before .before .before .enum-told6 .given .1))
+    (past 4 n s _ (lit< tt) (code-good positions (part s 14 1) _ (c .before .before .before .before .before .before .before .before .before .code3 .ensures) (c .before .before .before .before .before .before .before .enum-told8 .given .1))
+    (past 5 n s _ (lit< tt) (code-on-good (isTrade (getD s 8 0)) liquidities (part s 15 1) _ (c .before .before .before .liquidity .ensures ∙ ap (λ (t : Bool). keptOn t (code liquidities) (part s 15 1)) (c .before .before .before .before .is-trade .ensures)) (c .before .enum-told10 .given .1))
+    (c .account-fields .ensures))))))
+
+pub event-fields-spec : {M : Type 1} → statement M
+event-fields-spec =
+    tie.close
+    (tie.spec
+    sub-number
+    part-number-start
+    part-number-end
+    number-requires
+    enum-known-timestamp
+    enum-told
+    refused-requires
+    returns
+    sub-code
+    part-code-start
+    part-code-end
+    slice-aggregate-code
+    code-requires
+    enum-told-2
+    enum-told-3
+    refused-requires-2
+    returns-2
+    sub-text
+    part-text-start
+    part-text-end
+    text-requires
+    enum-told-4
+    enum-told-5
+    refused-requires-3
+    returns-3
+    sub-code-2
+    part-code-start-2
+    part-code-end-2
+    slice-aggregate-code-2
+    code-requires-2
+    enum-told-6
+    enum-told-7
+    refused-requires-4
+    returns-4
+    sub-code-3
+    part-code-start-3
+    part-code-end-3
+    slice-aggregate-code-3
+    code-requires-3
+    enum-told-8
+    enum-told-9
+    refused-requires-5
+    returns-5
+    sub-liquidity
+    part-liquidity-start
+    part-liquidity-end
+    shared-slice-read-is-trade
+    is-trade-requires
+    liquidity-requires
+    enum-told-10
+    enum-told-11
+    refused-requires-6
+    returns-6
+    account-fields-requires
+    returns-7)

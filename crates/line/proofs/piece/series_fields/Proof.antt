@@ -1,0 +1,231 @@
+-- `line::piece::series_fields` meets its contract.
+use Prim.Native.Nat.{ℕ}
+use mathlib.Core.Path.{_∙_, ap}
+use borrow.Author.Needs.{needs}
+use denote.Ref.{now}
+use lib.Dec.{lit<}
+use lib.ListN.{getD}
+use Rattle.layout.specs.Rule.{price, code}
+use Rattle.layout.specs.Layout.{part, denominators, leastStrike}
+use Rattle.field.specs.Number.{digits as readDigits, price as readPrice}
+use Rattle.line.proofs.Steps.{withSeries, past, stops, code-good, code-bad, value-good, value-bad}
+use Rattle.line.proofs.piece.series_fields.Statement.{statement}
+use Rattle.line.proofs.piece.series_fields.Tie as tie
+
+sub-exactly : tie.Need-sub-exactly
+sub-exactly c = search needs
+
+part-exactly-start : tie.Need-part-exactly-start
+part-exactly-start c = search needs
+
+part-exactly-end : tie.Need-part-exactly-end
+part-exactly-end c = search needs
+
+exactly-requires : tie.Need-exactly-requires
+exactly-requires c κs = search needs
+
+enum-known-date : tie.Need-enum-known-date
+enum-known-date c = search needs
+
+enum-told : tie.Need-enum-told
+enum-told c = search needs
+
+refused-requires : tie.Need-refused-requires
+refused-requires c κs = search needs
+
+returns : tie.Need-returns
+returns c =
+    let s = now (c .before .before .before .before .before .before .args .s) in
+    let n = c .before .before .before .before .before .before .args .n in
+    stops 17 n s _ (lit< tt) (value-bad (readDigits 1 31 (part s 99 2)) _ (c .before .before .before .exactly .ensures) (c .before .enum-told .given .1)) (c .refused .ensures)
+
+sub-exactly-2 : tie.Need-sub-exactly-2
+sub-exactly-2 c = search needs
+
+part-exactly-start-2 : tie.Need-part-exactly-start-2
+part-exactly-start-2 c = search needs
+
+part-exactly-end-2 : tie.Need-part-exactly-end-2
+part-exactly-end-2 c = search needs
+
+exactly-requires-2 : tie.Need-exactly-requires-2
+exactly-requires-2 c κs = search needs
+
+enum-known-year : tie.Need-enum-known-year
+enum-known-year c = search needs
+
+enum-told-2 : tie.Need-enum-told-2
+enum-told-2 c = search needs
+
+refused-requires-2 : tie.Need-refused-requires-2
+refused-requires-2 c κs = search needs
+
+returns-2 : tie.Need-returns-2
+returns-2 c =
+    let s = now (c .before .before .before .before .before .before .before .before .before .before .before .args .s) in
+    let n = withSeries (c .before .before .before .before .before .before .before .before .before .before .before .args .n) (c .before .before .before .before .before .before .date .given .0 .0) (c .before .before .before .before .before .before .before .before .before .before .before .args .n .year) (c .before .before .before .before .before .before .before .before .before .before .before .args .n .strike) (c .before .before .before .before .before .before .before .before .before .before .before .args .n .price) in
+    past 17 n s _ (lit< tt) (value-good (readDigits 1 31 (part s 99 2)) _ _ (c .before .before .before .before .before .before .before .before .exactly .ensures) (c .before .before .before .before .before .before .date .given .1))
+    (stops 18 n s _ (lit< tt) (value-bad (readDigits 0 99 (part s 101 2)) _ (c .before .before .before .exactly2 .ensures) (c .before .enum-told2 .given .1)) (c .refused2 .ensures))
+
+sub-code : tie.Need-sub-code
+sub-code c = search needs
+
+part-code-start : tie.Need-part-code-start
+part-code-start c = search needs
+
+part-code-end : tie.Need-part-code-end
+part-code-end c = search needs
+
+slice-aggregate-code : tie.Need-slice-aggregate-code
+slice-aggregate-code c = search needs
+
+code-requires : tie.Need-code-requires
+code-requires c κs = search needs
+
+enum-told-3 : tie.Need-enum-told-3
+enum-told-3 c = search needs
+
+enum-told-4 : tie.Need-enum-told-4
+enum-told-4 c = search needs
+
+refused-requires-3 : tie.Need-refused-requires-3
+refused-requires-3 c κs = search needs
+
+returns-3 : tie.Need-returns-3
+returns-3 c =
+    let s = now (c .before .before .before .before .before .before .before .before .before .before .before .before .before .before .before .before .before .args .s) in
+    let n = withSeries (c .before .before .before .before .before .before .before .before .before .before .before .before .before .before .before .before .before .args .n) (c .before .before .before .before .before .before .before .before .before .before .before .before .date .given .0 .0) (c .before .before .before .before .before .before .before .year .given .0 .0) (c .before .before .before .before .before .before .before .before .before .before .before .before .before .before .before .before .before .args .n .strike) (c .before .before .before .before .before .before .before .before .before .before .before .before .before .before .before .before .before .args .n .price) in
+    past 17 n s _ (lit< tt) (value-good (readDigits 1 31 (part s 99 2)) _ _ (c .before .before .before .before .before .before .before .before .before .before .before .before .before .before .exactly .ensures) (c .before .before .before .before .before .before .before .before .before .before .before .before .date .given .1))
+    (past 18 n s _ (lit< tt) (value-good (readDigits 0 99 (part s 101 2)) _ _ (c .before .before .before .before .before .before .before .before .before .exactly2 .ensures) (c .before .before .before .before .before .before .before .year .given .1))
+    (stops 19 n s _ (lit< tt) (code-bad denominators (part s 103 1) _ (c .before .before .before .code .ensures) (c .before .enum-told4 .given .1)) (c .refused3 .ensures)))
+
+sub-exactly-3 : tie.Need-sub-exactly-3
+sub-exactly-3 c = search needs
+
+part-exactly-start-3 : tie.Need-part-exactly-start-3
+part-exactly-start-3 c = search needs
+
+part-exactly-end-3 : tie.Need-part-exactly-end-3
+part-exactly-end-3 c = search needs
+
+shared-slice-read-least-strike : tie.Need-shared-slice-read-least-strike
+shared-slice-read-least-strike c = search needs
+
+least-strike-requires : tie.Need-least-strike-requires
+least-strike-requires c κs = search needs
+
+exactly-requires-3 : tie.Need-exactly-requires-3
+exactly-requires-3 c κs = search needs
+
+enum-known-strike : tie.Need-enum-known-strike
+enum-known-strike c = search needs
+
+enum-told-5 : tie.Need-enum-told-5
+enum-told-5 c = search needs
+
+refused-requires-4 : tie.Need-refused-requires-4
+refused-requires-4 c κs = search needs
+
+returns-4 : tie.Need-returns-4
+returns-4 c =
+    let s = now (c .before .before .before .before .before .before .before .before .before .before .before .before .before .before .before .before .before .before .before .before .before .before .before .args .s) in
+    let n = withSeries (c .before .before .before .before .before .before .before .before .before .before .before .before .before .before .before .before .before .before .before .before .before .before .before .args .n) (c .before .before .before .before .before .before .before .before .before .before .before .before .before .before .before .before .before .before .date .given .0 .0) (c .before .before .before .before .before .before .before .before .before .before .before .before .before .year .given .0 .0) (c .before .before .before .before .before .before .before .before .before .before .before .before .before .before .before .before .before .before .before .before .before .before .before .args .n .strike) (c .before .before .before .before .before .before .before .before .before .before .before .before .before .before .before .before .before .before .before .before .before .before .before .args .n .price) in
+    past 17 n s _ (lit< tt) (value-good (readDigits 1 31 (part s 99 2)) _ _ (c .before .before .before .before .before .before .before .before .before .before .before .before .before .before .before .before .before .before .before .before .exactly .ensures) (c .before .before .before .before .before .before .before .before .before .before .before .before .before .before .before .before .before .before .date .given .1))
+    (past 18 n s _ (lit< tt) (value-good (readDigits 0 99 (part s 101 2)) _ _ (c .before .before .before .before .before .before .before .before .before .before .before .before .before .before .before .exactly2 .ensures) (c .before .before .before .before .before .before .before .before .before .before .before .before .before .year .given .1))
+    (past 19 n s _ (lit< tt) (code-good denominators (part s 103 1) _ (c .before .before .before .before .before .before .before .before .before .code .ensures) (c .before .before .before .before .before .before .before .enum-told3 .given .1))
+    (stops 20 n s _ (lit< tt) (value-bad (readDigits (leastStrike (getD s 103 0)) 999999 (part s 104 6)) _ (c .before .before .before .exactly3 .ensures ∙ ap (λ (d : ℕ). readDigits d 999999 (part s 104 6)) (c .before .before .before .before .least-strike .ensures)) (c .before .enum-told5 .given .1)) (c .refused4 .ensures))))
+
+sub-price : tie.Need-sub-price
+sub-price c = search needs
+
+part-price-start : tie.Need-part-price-start
+part-price-start c = search needs
+
+part-price-end : tie.Need-part-price-end
+part-price-end c = search needs
+
+price-requires : tie.Need-price-requires
+price-requires c κs = search needs
+
+enum-known-price : tie.Need-enum-known-price
+enum-known-price c = search needs
+
+enum-told-6 : tie.Need-enum-told-6
+enum-told-6 c = search needs
+
+refused-requires-5 : tie.Need-refused-requires-5
+refused-requires-5 c κs = search needs
+
+returns-5 : tie.Need-returns-5
+returns-5 c =
+    let s = now (c .before .before .before .before .before .before .before .before .before .before .before .before .before .before .before .before .before .before .before .before .before .before .before .before .before .before .before .before .args .s) in
+    let n = withSeries (c .before .before .before .before .before .before .before .before .before .before .before .before .before .before .before .before .before .before .before .before .before .before .before .before .before .before .before .before .args .n) (c .before .before .before .before .before .before .before .before .before .before .before .before .before .before .before .before .before .before .before .before .before .before .before .date .given .0 .0) (c .before .before .before .before .before .before .before .before .before .before .before .before .before .before .before .before .before .before .year .given .0 .0) (c .before .before .before .before .before .before .strike .given .0 .0) (c .before .before .before .before .before .before .before .before .before .before .before .before .before .before .before .before .before .before .before .before .before .before .before .before .before .before .before .before .args .n .price) in
+    past 17 n s _ (lit< tt) (value-good (readDigits 1 31 (part s 99 2)) _ _ (c .before .before .before .before .before .before .before .before .before .before .before .before .before .before .before .before .before .before .before .before .before .before .before .before .before .exactly .ensures) (c .before .before .before .before .before .before .before .before .before .before .before .before .before .before .before .before .before .before .before .before .before .before .before .date .given .1))
+    (past 18 n s _ (lit< tt) (value-good (readDigits 0 99 (part s 101 2)) _ _ (c .before .before .before .before .before .before .before .before .before .before .before .before .before .before .before .before .before .before .before .before .exactly2 .ensures) (c .before .before .before .before .before .before .before .before .before .before .before .before .before .before .before .before .before .before .year .given .1))
+    (past 19 n s _ (lit< tt) (code-good denominators (part s 103 1) _ (c .before .before .before .before .before .before .before .before .before .before .before .before .before .before .code .ensures) (c .before .before .before .before .before .before .before .before .before .before .before .before .enum-told3 .given .1))
+    (past 20 n s _ (lit< tt) (value-good (readDigits (leastStrike (getD s 103 0)) 999999 (part s 104 6)) _ _ (c .before .before .before .before .before .before .before .before .exactly3 .ensures ∙ ap (λ (d : ℕ). readDigits d 999999 (part s 104 6)) (c .before .before .before .before .before .before .before .before .before .least-strike .ensures)) (c .before .before .before .before .before .before .strike .given .1))
+    (stops 21 n s _ (lit< tt) (value-bad (readPrice (part s 110 10)) _ (c .before .before .before .price .ensures) (c .before .enum-told6 .given .1)) (c .refused5 .ensures)))))
+
+trade-fields-requires : tie.Need-trade-fields-requires
+trade-fields-requires c κs = search needs
+
+returns-6 : tie.Need-returns-6
+returns-6 c =
+    let s = now (c .before .before .before .before .before .before .before .before .before .before .before .before .before .before .before .before .before .before .before .before .before .before .before .before .before .before .before .before .before .args .s) in
+    let n = withSeries (c .before .before .before .before .before .before .before .before .before .before .before .before .before .before .before .before .before .before .before .before .before .before .before .before .before .before .before .before .before .args .n) (c .before .before .before .before .before .before .before .before .before .before .before .before .before .before .before .before .before .before .before .before .before .before .before .before .date .given .0 .0) (c .before .before .before .before .before .before .before .before .before .before .before .before .before .before .before .before .before .before .before .year .given .0 .0) (c .before .before .before .before .before .before .before .strike .given .0 .0) (c .before .before .price2 .given .0 .0) in
+    past 17 n s _ (lit< tt) (value-good (readDigits 1 31 (part s 99 2)) _ _ (c .before .before .before .before .before .before .before .before .before .before .before .before .before .before .before .before .before .before .before .before .before .before .before .before .before .before .exactly .ensures) (c .before .before .before .before .before .before .before .before .before .before .before .before .before .before .before .before .before .before .before .before .before .before .before .before .date .given .1))
+    (past 18 n s _ (lit< tt) (value-good (readDigits 0 99 (part s 101 2)) _ _ (c .before .before .before .before .before .before .before .before .before .before .before .before .before .before .before .before .before .before .before .before .before .exactly2 .ensures) (c .before .before .before .before .before .before .before .before .before .before .before .before .before .before .before .before .before .before .before .year .given .1))
+    (past 19 n s _ (lit< tt) (code-good denominators (part s 103 1) _ (c .before .before .before .before .before .before .before .before .before .before .before .before .before .before .before .code .ensures) (c .before .before .before .before .before .before .before .before .before .before .before .before .before .enum-told3 .given .1))
+    (past 20 n s _ (lit< tt) (value-good (readDigits (leastStrike (getD s 103 0)) 999999 (part s 104 6)) _ _ (c .before .before .before .before .before .before .before .before .before .exactly3 .ensures ∙ ap (λ (d : ℕ). readDigits d 999999 (part s 104 6)) (c .before .before .before .before .before .before .before .before .before .before .least-strike .ensures)) (c .before .before .before .before .before .before .before .strike .given .1))
+    (past 21 n s _ (lit< tt) (value-good (readPrice (part s 110 10)) _ _ (c .before .before .before .before .price .ensures) (c .before .before .price2 .given .1))
+    (c .trade-fields .ensures)))))
+
+pub series-fields-spec : {M : Type 1} → statement M
+series-fields-spec =
+    tie.close
+    (tie.spec
+    sub-exactly
+    part-exactly-start
+    part-exactly-end
+    exactly-requires
+    enum-known-date
+    enum-told
+    refused-requires
+    returns
+    sub-exactly-2
+    part-exactly-start-2
+    part-exactly-end-2
+    exactly-requires-2
+    enum-known-year
+    enum-told-2
+    refused-requires-2
+    returns-2
+    sub-code
+    part-code-start
+    part-code-end
+    slice-aggregate-code
+    code-requires
+    enum-told-3
+    enum-told-4
+    refused-requires-3
+    returns-3
+    sub-exactly-3
+    part-exactly-start-3
+    part-exactly-end-3
+    shared-slice-read-least-strike
+    least-strike-requires
+    exactly-requires-3
+    enum-known-strike
+    enum-told-5
+    refused-requires-4
+    returns-4
+    sub-price
+    part-price-start
+    part-price-end
+    price-requires
+    enum-known-price
+    enum-told-6
+    refused-requires-5
+    returns-5
+    trade-fields-requires
+    returns-6)

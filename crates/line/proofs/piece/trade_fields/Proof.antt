@@ -1,0 +1,110 @@
+-- `line::piece::trade_fields` meets its contract.
+use mathlib.Core.Bool.{Bool}
+use mathlib.Core.Path.{_∙_, ap}
+use borrow.Author.Needs.{needs}
+use denote.Ref.{now}
+use lib.Dec.{lit<}
+use lib.ListN.{getD}
+use Rattle.line.specs.Groups.{isTrade, idOn}
+use Rattle.layout.specs.Layout.{part}
+use Rattle.line.proofs.Built.{all-read}
+use Rattle.line.proofs.Steps.{withIds, past, stops, id-good, id-bad, id-number}
+use Rattle.line.proofs.piece.trade_fields.Statement.{statement}
+use Rattle.line.proofs.piece.trade_fields.Tie as tie
+
+shared-slice-read-is-trade : tie.Need-shared-slice-read-is-trade
+shared-slice-read-is-trade c = search needs
+
+is-trade-requires : tie.Need-is-trade-requires
+is-trade-requires c κs = search needs
+
+sub-id : tie.Need-sub-id
+sub-id c = search needs
+
+part-id-start : tie.Need-part-id-start
+part-id-start c = search needs
+
+part-id-end : tie.Need-part-id-end
+part-id-end c = search needs
+
+id-requires : tie.Need-id-requires
+id-requires c κs = search needs
+
+enum-known-match-id : tie.Need-enum-known-match-id
+enum-known-match-id c = search needs
+
+enum-told : tie.Need-enum-told
+enum-told c = search needs
+
+refused-requires : tie.Need-refused-requires
+refused-requires c κs = search needs
+
+returns : tie.Need-returns
+returns c =
+    let s = now (c .before .before .before .before .before .before .before .before .args .s) in
+    let n = c .before .before .before .before .before .before .before .before .args .n in
+    stops 22 n s _ (lit< tt) (id-bad (isTrade (getD s 8 0)) (part s 120 9) _ (c .before .before .before .id .ensures ∙ ap (λ (t : Bool). idOn t (part s 120 9)) (c .before .before .before .before .before .is-trade .ensures)) (c .before .enum-told .given .1)) (c .refused .ensures)
+
+sub-id-2 : tie.Need-sub-id-2
+sub-id-2 c = search needs
+
+part-id-start-2 : tie.Need-part-id-start-2
+part-id-start-2 c = search needs
+
+part-id-end-2 : tie.Need-part-id-end-2
+part-id-end-2 c = search needs
+
+id-requires-2 : tie.Need-id-requires-2
+id-requires-2 c κs = search needs
+
+enum-known-cross-id : tie.Need-enum-known-cross-id
+enum-known-cross-id c = search needs
+
+enum-told-2 : tie.Need-enum-told-2
+enum-told-2 c = search needs
+
+refused-requires-2 : tie.Need-refused-requires-2
+refused-requires-2 c κs = search needs
+
+returns-2 : tie.Need-returns-2
+returns-2 c =
+    let s = now (c .before .before .before .before .before .before .before .before .before .before .before .before .before .args .s) in
+    let n = withIds (c .before .before .before .before .before .before .before .before .before .before .before .before .before .args .n) (c .before .before .before .before .before .before .match-id .given .0 .0) (c .before .before .before .before .before .before .before .before .before .before .before .before .before .args .n .«cross_id») in
+    past 22 n s _ (lit< tt) (id-good (isTrade (getD s 8 0)) (part s 120 9) _ _ (c .before .before .before .before .before .before .before .before .id .ensures ∙ ap (λ (t : Bool). idOn t (part s 120 9)) (c .before .before .before .before .before .before .before .before .before .before .is-trade .ensures)) (c .before .before .before .before .before .before .match-id .given .1))
+    (stops 23 n s _ (lit< tt) (id-bad (isTrade (getD s 8 0)) (part s 129 9) _ (c .before .before .before .id2 .ensures ∙ ap (λ (t : Bool). idOn t (part s 129 9)) (c .before .before .before .before .before .before .before .before .before .before .is-trade .ensures)) (c .before .enum-told2 .given .1)) (c .refused2 .ensures))
+
+record-of-requires : tie.Need-record-of-requires
+record-of-requires c κs = search needs
+
+returns-3 : tie.Need-returns-3
+returns-3 c =
+    let s = now (c .before .before .before .before .before .before .before .before .before .before .before .before .before .before .args .s) in
+    let n = withIds (c .before .before .before .before .before .before .before .before .before .before .before .before .before .before .args .n) (c .before .before .before .before .before .before .before .match-id .given .0 .0) (c .before .before .cross-id .given .0 .0) in
+    past 22 n s _ (lit< tt) (id-good (isTrade (getD s 8 0)) (part s 120 9) _ _ (c .before .before .before .before .before .before .before .before .before .id .ensures ∙ ap (λ (t : Bool). idOn t (part s 120 9)) (c .before .before .before .before .before .before .before .before .before .before .before .is-trade .ensures)) (c .before .before .before .before .before .before .before .match-id .given .1))
+    (past 23 n s _ (lit< tt) (id-good (isTrade (getD s 8 0)) (part s 129 9) _ _ (c .before .before .before .before .id2 .ensures ∙ ap (λ (t : Bool). idOn t (part s 129 9)) (c .before .before .before .before .before .before .before .before .before .before .before .is-trade .ensures)) (c .before .before .cross-id .given .1))
+    (all-read n s (c .record-of .result) (c .record-of .ensures) (id-number (isTrade (getD s 8 0)) (part s 120 9) _ _ (c .before .before .before .before .before .before .before .before .before .id .ensures ∙ ap (λ (t : Bool). idOn t (part s 120 9)) (c .before .before .before .before .before .before .before .before .before .before .before .is-trade .ensures)) (c .before .before .before .before .before .before .before .match-id .given .1)) (id-number (isTrade (getD s 8 0)) (part s 129 9) _ _ (c .before .before .before .before .id2 .ensures ∙ ap (λ (t : Bool). idOn t (part s 129 9)) (c .before .before .before .before .before .before .before .before .before .before .before .is-trade .ensures)) (c .before .before .cross-id .given .1))))
+
+pub trade-fields-spec : {M : Type 1} → statement M
+trade-fields-spec =
+    tie.close
+    (tie.spec
+    shared-slice-read-is-trade
+    is-trade-requires
+    sub-id
+    part-id-start
+    part-id-end
+    id-requires
+    enum-known-match-id
+    enum-told
+    refused-requires
+    returns
+    sub-id-2
+    part-id-start-2
+    part-id-end-2
+    id-requires-2
+    enum-known-cross-id
+    enum-told-2
+    refused-requires-2
+    returns-2
+    record-of-requires
+    returns-3)

@@ -1,0 +1,163 @@
+// The record of a line whose fields all keep their rules.
+ghost use mathlib.Core.Path.{_≡_};
+ghost use lib.ListN.{length};
+ghost use Rattle.layout.specs.Records.{eventOf};
+ghost use Rattle.line.specs.Groups.{recordFrom, eventFrom, partiesOf, namesOf};
+ghost use Rattle.line.specs.Promises.{blankRecord};
+use crate::Names;
+use crate::Numbers;
+use crate::Parties;
+use field::put;
+use layout::Event;
+use layout::Record;
+use layout::Trade;
+
+pub fn blank_record() -> Record
+    ensures { λ r. ⌜ r ≡ blankRecord ⌝ }
+{
+    Record {
+        timestamp: 0,
+        event: Event::Accepted,
+        firm: [32; 4],
+        capacity: 32,
+        position: 32,
+        account: [32; 4],
+        member: [32; 5],
+        clearing: [32; 5],
+        source: [32; 6],
+        token: [32; 20],
+        replaced: [32; 20],
+        reference: [32; 9],
+        side: 32,
+        contracts: 0,
+        root: [32; 6],
+        month: 32,
+        date: 0,
+        year: 0,
+        denominator: 32,
+        strike: 0,
+        price: 0,
+    }
+}
+
+pub fn event_of(t: u8, trade: Trade) -> Event
+    ensures { λ r. ⌜ r ≡ eventOf t trade ⌝ }
+{
+    if t == b'A' {
+        return Event::Accepted;
+    }
+    if t == b'E' {
+        return Event::Executed(trade);
+    }
+    if t == b'X' {
+        return Event::Cancelled;
+    }
+    if t == b'C' {
+        return Event::Broken(trade);
+    }
+    if t == b'U' {
+        return Event::Replaced;
+    }
+    Event::Repriced
+}
+
+fn parties(s: &[u8]) -> Parties
+    requires { ⌜ length (now s) ≡ 140 ⌝ }
+    ensures { λ r. ⌜ r ≡ partiesOf (now (s .entry)) ⌝ }
+{
+    let mut firm = [0u8; 4];
+    put::copy(&mut firm, &s[9..13]);
+    let mut account = [0u8; 4];
+    put::copy(&mut account, &s[16..20]);
+    let mut member = [0u8; 5];
+    put::copy(&mut member, &s[20..25]);
+    let mut clearing = [0u8; 5];
+    put::copy(&mut clearing, &s[25..30]);
+    Parties {
+        firm,
+        account,
+        member,
+        clearing,
+    }
+}
+
+fn names(s: &[u8]) -> Names
+    requires { ⌜ length (now s) ≡ 140 ⌝ }
+    ensures { λ r. ⌜ r ≡ namesOf (now (s .entry)) ⌝ }
+{
+    let mut source = [0u8; 6];
+    put::copy(&mut source, &s[30..36]);
+    let mut token = [0u8; 20];
+    put::copy(&mut token, &s[36..56]);
+    let mut replaced = [0u8; 20];
+    put::copy(&mut replaced, &s[56..76]);
+    let mut reference = [0u8; 9];
+    put::copy(&mut reference, &s[76..85]);
+    let mut root = [0u8; 6];
+    put::copy(&mut root, &s[92..98]);
+    Names {
+        source,
+        token,
+        replaced,
+        reference,
+        root,
+    }
+}
+
+fn event(s: &[u8], n: Numbers) -> Event
+    requires { ⌜ length (now s) ≡ 140 ⌝ }
+    ensures { λ r. ⌜ r ≡ eventFrom n (now (s .entry)) ⌝ }
+{
+    let trade = Trade {
+        liquidity: s[15],
+        match_id: n.match_id,
+        cross_id: n.cross_id,
+    };
+    event_of(s[8], trade)
+}
+
+pub fn record_of(s: &[u8], n: Numbers) -> Record
+    requires { ⌜ length (now s) ≡ 140 ⌝ }
+    ensures { λ r. ⌜ r ≡ recordFrom n (now (s .entry)) ⌝ }
+{
+    let capacity = s[13];
+    let position = s[14];
+    let side = s[85];
+    let month = s[98];
+    let denominator = s[103];
+    let event = event(s, n);
+    let p = parties(s);
+    let firm = p.firm;
+    let account = p.account;
+    let member = p.member;
+    let clearing = p.clearing;
+    let q = names(s);
+    let source = q.source;
+    let token = q.token;
+    let replaced = q.replaced;
+    let reference = q.reference;
+    let root = q.root;
+    Record {
+        timestamp: n.timestamp,
+        event,
+        firm,
+        capacity,
+        position,
+        account,
+        member,
+        clearing,
+        source,
+        token,
+        replaced,
+        reference,
+        side,
+        contracts: n.contracts,
+        root,
+        month,
+        date: n.date,
+        year: n.year,
+        denominator,
+        strike: n.strike,
+        price: n.price,
+    }
+}

@@ -1,0 +1,77 @@
+// Reading a piece and writing a record.
+mod build;
+mod pick;
+mod piece;
+
+use layout::Clock;
+use layout::Record;
+use layout::Strike;
+pub use piece::read;
+use refusal::Refusal;
+
+pub enum Outcome {
+    EndOfDay,
+    Line,
+    Refused(Refusal),
+}
+
+// An enum holds no array, so the record stands beside it: blank unless the outcome is a line.
+pub struct Reading {
+    pub outcome: Outcome,
+    pub line: Record,
+}
+
+pub enum Written {
+    Done,
+    Refused(Refusal),
+}
+
+// A strike in hundred-thousandths of a dollar.
+pub enum StrikeValue {
+    Value(u64),
+    Refused(Refusal),
+}
+
+pub enum StrikeForm {
+    Form(Strike),
+    Refused(Refusal),
+}
+
+pub enum TimeOfDay {
+    Time(Clock),
+    Refused(Refusal),
+}
+
+// Whether a record is lawful, or its first unlawful field.
+pub(crate) enum Check {
+    Lawful,
+    Unlawful(u8),
+}
+
+// The numbers of a line, as far as its fields were read; the rest is 0.
+pub(crate) struct Numbers {
+    pub(crate) timestamp: u64,
+    pub(crate) contracts: u64,
+    pub(crate) date: u64,
+    pub(crate) year: u64,
+    pub(crate) strike: u64,
+    pub(crate) price: u64,
+    pub(crate) match_id: u64,
+    pub(crate) cross_id: u64,
+}
+
+// The runs of a line are copied in two lots: a function that makes all nine has more facts than the prover reads.
+pub(crate) struct Parties {
+    pub(crate) firm: [u8; 4],
+    pub(crate) account: [u8; 4],
+    pub(crate) member: [u8; 5],
+    pub(crate) clearing: [u8; 5],
+}
+
+pub(crate) struct Names {
+    pub(crate) source: [u8; 6],
+    pub(crate) token: [u8; 20],
+    pub(crate) replaced: [u8; 20],
+    pub(crate) reference: [u8; 9],
+    pub(crate) root: [u8; 6],
+}

@@ -1,0 +1,197 @@
+// Reading a piece. The fields are read a group at a time, and each group ends by calling the next: a chain of all 24 is
+// more than the prover takes at once.
+ghost use mathlib.Core.Path.{_≡_};
+ghost use lib.ListN.{length};
+ghost use Rattle.layout.specs.Line.{same, crlf};
+ghost use Rattle.line.specs.Groups.{readingFrom, refusedReading, noNumbers};
+ghost use Rattle.line.specs.Promises.{Read};
+use crate::Numbers;
+use crate::Outcome;
+use crate::Reading;
+use crate::build;
+use crate::pick;
+use field::Bytes;
+use field::Class;
+use field::Number;
+use field::digits;
+use field::kept;
+use refusal::Refusal;
+
+// A piece of any length and content. It is refused by the first rule that it breaks.
+pub fn read(piece: &[u8]) -> Reading
+    ensures { λ r. ⌜ Read (now (piece .entry)) r ⌝ }
+{
+    if is_crlf(piece) {
+        return Reading {
+            outcome: Outcome::EndOfDay,
+            line: build::blank_record(),
+        };
+    }
+    if piece.len() != 140 {
+        return refused(Refusal::NoLine);
+    }
+    if !is_crlf(&piece[138..]) {
+        return refused(Refusal::NoLine);
+    }
+    if !kept::all_of(&piece[0..138], Class::Printable) {
+        return refused(Refusal::BadByte);
+    }
+    event_fields(piece)
+}
+
+fn is_crlf(s: &[u8]) -> bool
+    ensures { λ r. ⌜ r ≡ same (now (s .entry)) crlf ⌝ }
+{
+    if s.len() != 2 {
+        return false;
+    }
+    (s[0] == b'\r') & (s[1] == b'\n')
+}
+
+fn refused(x: Refusal) -> Reading
+    ensures { λ r. ⌜ r ≡ refusedReading x ⌝ }
+{
+    Reading {
+        outcome: Outcome::Refused(x),
+        line: build::blank_record(),
+    }
+}
+
+// Fields 1 to 6.
+fn event_fields(s: &[u8]) -> Reading
+    requires { ⌜ length (now s) ≡ 140 ⌝ }
+    ensures { λ r. ⌜ r ≡ readingFrom 0 noNumbers (now (s .entry)) ⌝ }
+{
+    let Number::Value(timestamp) = digits::number(&s[0..8], 0, 86399999) else {
+        return refused(Refusal::Field(1));
+    };
+    let Bytes::Lawful = kept::code(&s[8..9], b"AEXCUR") else {
+        return refused(Refusal::Field(2));
+    };
+    let Bytes::Lawful = kept::text(&s[9..13]) else {
+        return refused(Refusal::Field(3));
+    };
+    let Bytes::Lawful = kept::code(&s[13..14], b"CFMPBOJN") else {
+        return refused(Refusal::Field(4));
+    };
+    let Bytes::Lawful = kept::code(&s[14..15], b"OC") else {
+        return refused(Refusal::Field(5));
+    };
+    let Bytes::Lawful = pick::liquidity(&s[15..16], pick::is_trade(s[8])) else {
+        return refused(Refusal::Field(6));
+    };
+    account_fields(
+        s,
+        Numbers {
+            timestamp,
+            contracts: 0,
+            date: 0,
+            year: 0,
+            strike: 0,
+            price: 0,
+            match_id: 0,
+            cross_id: 0,
+        },
+    )
+}
+
+// Fields 7 to 12.
+fn account_fields(s: &[u8], n: Numbers) -> Reading
+    requires { ⌜ length (now s) ≡ 140 ⌝ }
+    ensures { λ r. ⌜ r ≡ readingFrom 6 n (now (s .entry)) ⌝ }
+{
+    let Bytes::Lawful = kept::text_or_blank(&s[16..20]) else {
+        return refused(Refusal::Field(7));
+    };
+    let Bytes::Lawful = kept::digits_or_blank(&s[20..25]) else {
+        return refused(Refusal::Field(8));
+    };
+    let Bytes::Lawful = kept::digits_or_blank(&s[25..30]) else {
+        return refused(Refusal::Field(9));
+    };
+    let Bytes::Lawful = kept::text(&s[30..36]) else {
+        return refused(Refusal::Field(10));
+    };
+    let Bytes::Lawful = kept::text(&s[36..56]) else {
+        return refused(Refusal::Field(11));
+    };
+    let Bytes::Lawful = pick::replaced(&s[56..76], s[8] == b'U') else {
+        return refused(Refusal::Field(12));
+    };
+    order_fields(s, n)
+}
+
+// Fields 13 to 17.
+fn order_fields(s: &[u8], n: Numbers) -> Reading
+    requires { ⌜ length (now s) ≡ 140 ⌝ }
+    ensures { λ r. ⌜ r ≡ readingFrom 12 n (now (s .entry)) ⌝ }
+{
+    let Bytes::Lawful = kept::hex(&s[76..85]) else {
+        return refused(Refusal::Field(13));
+    };
+    let Bytes::Lawful = kept::code(&s[85..86], b"BS") else {
+        return refused(Refusal::Field(14));
+    };
+    let Number::Value(contracts) = digits::number(&s[86..92], 1, 999999) else {
+        return refused(Refusal::Field(15));
+    };
+    let Bytes::Lawful = kept::text(&s[92..98]) else {
+        return refused(Refusal::Field(16));
+    };
+    let Bytes::Lawful = kept::code(&s[98..99], b"ABCDEFGHIJKLMNOPQRSTUVWX") else {
+        return refused(Refusal::Field(17));
+    };
+    let mut m = n;
+    m.contracts = contracts;
+    series_fields(s, m)
+}
+
+// Fields 18 to 22.
+fn series_fields(s: &[u8], n: Numbers) -> Reading
+    requires { ⌜ length (now s) ≡ 140 ⌝ }
+    ensures { λ r. ⌜ r ≡ readingFrom 17 n (now (s .entry)) ⌝ }
+{
+    let Number::Value(date) = digits::exactly(&s[99..101], 1, 31) else {
+        return refused(Refusal::Field(18));
+    };
+    let Number::Value(year) = digits::exactly(&s[101..103], 0, 99) else {
+        return refused(Refusal::Field(19));
+    };
+    let Bytes::Lawful = kept::code(&s[103..104], b"ABCDE") else {
+        return refused(Refusal::Field(20));
+    };
+    let Number::Value(strike) = digits::exactly(&s[104..110], pick::least_strike(s[103]), 999999)
+    else {
+        return refused(Refusal::Field(21));
+    };
+    let Number::Value(price) = digits::price(&s[110..120]) else {
+        return refused(Refusal::Field(22));
+    };
+    let mut m = n;
+    m.date = date;
+    m.year = year;
+    m.strike = strike;
+    m.price = price;
+    trade_fields(s, m)
+}
+
+// Fields 23 and 24.
+fn trade_fields(s: &[u8], n: Numbers) -> Reading
+    requires { ⌜ length (now s) ≡ 140 ⌝ }
+    ensures { λ r. ⌜ r ≡ readingFrom 22 n (now (s .entry)) ⌝ }
+{
+    let trade = pick::is_trade(s[8]);
+    let Number::Value(match_id) = pick::id(&s[120..129], trade) else {
+        return refused(Refusal::Field(23));
+    };
+    let Number::Value(cross_id) = pick::id(&s[129..138], trade) else {
+        return refused(Refusal::Field(24));
+    };
+    let mut m = n;
+    m.match_id = match_id;
+    m.cross_id = cross_id;
+    Reading {
+        outcome: Outcome::Line,
+        line: build::record_of(s, m),
+    }
+}
