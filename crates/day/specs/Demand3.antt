@@ -1,0 +1,91 @@
+-- The tender's demand 3, in the order of its sentences, of any booking and any way to make the sheet. proofs/Demand3.antt proves it of ours.
+use Prim.Native.Nat.{ℕ, _+_, _≤_, _<_}
+use mathlib.Core.Path.{_≡_}
+use mathlib.Core.Bool.{Bool, true, false, cond}
+use mathlib.Core.List.{List, [], _∷_}
+use mathlib.Core.Logic.{_↔_}
+use lib.ListN.{length, getD}
+use Rattle.refusal.specs.Answer.{Answer, value, refused}
+use Rattle.layout.specs.Line.{Said, line, read}
+use Rattle.layout.specs.declared.Event.the-variants.{Replaced}
+use Rattle.layout.specs.declared.Record.{Record}
+use Rattle.order.specs.Names.{keyOf, sameKey}
+use Rattle.order.specs.declared.Figures.{Figures}
+use Rattle.order.specs.declared.Order.{Order}
+use Rattle.day.specs.Damage.{undamaged, eldersOf}
+use Rattle.day.specs.History.{History, ordersOf, isOver, known, countOf, isNew, isMaker}
+use Rattle.day.specs.Listing.{Sheet, Listed, shown, elderAt}
+use Rattle.day.specs.Machine.{Table, empty, Booked}
+use Rattle.day.specs.Refusals.{rules, NoneOf, FirstOf}
+
+-- ---- "Start from an empty table and feed it lines, good or bad, in any sequence." The pieces stand latest first
+
+module _ (book : Table → List ℕ → Booked) where
+  abbrev pub tableAfter : List (List ℕ) → Table
+  tableAfter [] = empty
+  tableAfter (p ∷ ps) = book (tableAfter ps) p .table
+
+  abbrev pub answerTo : List (List ℕ) → List ℕ → Answer (Unit {0})
+  answerTo ps p = book (tableAfter ps) p .answer
+
+  -- a line that was accepted joins the history
+  abbrev pub joined : Answer (Unit {0}) → Answer Said → History → History
+  joined (value u) (value x) h = x ∷ h
+  joined (value u) (refused n f) h = h
+  joined (refused n f) said h = h
+
+  -- the accepted lines
+  abbrev pub historyAfter : List (List ℕ) → History
+  historyAfter [] = []
+  historyAfter (p ∷ ps) = joined (answerTo ps p) (read p) (historyAfter ps)
+
+  abbrev pub kept : Answer (Unit {0}) → List ℕ → List (List ℕ) → List (List ℕ)
+  kept (value u) p ps = p ∷ ps
+  kept (refused n f) p ps = ps
+
+  -- the accepted ones alone
+  abbrev pub acceptedOf : List (List ℕ) → List (List ℕ)
+  acceptedOf [] = []
+  acceptedOf (p ∷ ps) = kept (answerTo ps p) p (acceptedOf ps)
+
+-- an order's elder, its elder's elder, and so on
+pub data Ancestor (es : List ℕ) : ℕ → ℕ → Type 0 where
+  elder : {i j : ℕ} → i < length es → elderAt es i ≡ j + 1 → Ancestor es j i
+  older : {i j k : ℕ} → Ancestor es k j → i < length es → elderAt es i ≡ j + 1 → Ancestor es k i
+
+-- a line of replacements is a descent: every order has at most one elder, an earlier one; nobody is their own ancestor; each person once
+pub record Descent (os : List Order) : Type 0 where
+  pub earlier : (i : ℕ) → i < length os → elderAt (eldersOf os) i ≤ i
+  pub unshared : (i j : ℕ) → i < length os → j < length os → 1 ≤ elderAt (eldersOf os) i → elderAt (eldersOf os) i ≡ elderAt (eldersOf os) j → i ≡ j
+  pub acyclic : (i : ℕ) → Ancestor (eldersOf os) i i → ⊥
+  pub one-key : (none : Order) (i j : ℕ) → i < length os → j < length os
+      → sameKey (getD os i none .key) (getD os j none .key) ≡ true → i ≡ j
+
+pub record Demand3 (limit : ℕ) (book : Table → List ℕ → Booked) (sheet : Table → Sheet) : Type 0 where
+  -- "A line is accepted exactly when no refusal of the build paper applies to it after the lines accepted before it."
+  pub accepted : (ps : List (List ℕ)) (p : List ℕ) → (answerTo book ps p ≡ value tt) ↔ NoneOf (rules limit (historyAfter book ps) p)
+  -- else it is refused by the first that applies, and by the first field with a 3
+  pub refused-first : (ps : List (List ℕ)) (p : List ℕ) (n : ℕ)
+      → ((f : ℕ) × (answerTo book ps p ≡ refused n f)) ↔ FirstOf (rules limit (historyAfter book ps) p) n
+  pub refused-field : (ps : List (List ℕ)) (p : List ℕ) (f : ℕ) → (answerTo book ps p ≡ refused 3 f) ↔ (read p ≡ refused 3 f)
+  -- "the sheet shows every accepted order once and no other"
+  pub each-once : (ps : List (List ℕ)) (i : ℕ) → i < length (ordersOf (historyAfter book ps)) → shown i (sheet (tableAfter book ps) .rows) ≡ 1
+  pub no-other : (ps : List (List ℕ)) (i : ℕ) → length (ordersOf (historyAfter book ps)) ≤ i → shown i (sheet (tableAfter book ps) .rows) ≡ 0
+  -- "families by the acceptance of their first order, each from eldest to youngest"
+  pub in-order : (ps : List (List ℕ)) → Listed (eldersOf (ordersOf (historyAfter book ps))) (sheet (tableAfter book ps) .rows)
+  -- N counts accepted A and U, F accepted A
+  pub counts-orders : (ps : List (List ℕ)) → sheet (tableAfter book ps) .orders ≡ countOf isMaker (historyAfter book ps)
+  pub counts-families : (ps : List (List ℕ)) → sheet (tableAfter book ps) .families ≡ countOf isNew (historyAfter book ps)
+  -- "Every figure equals what the accepted lines naming that order say": order by order, figure by figure
+  pub figures : (ps : List (List ℕ)) → tableAfter book ps .orders ≡ ordersOf (historyAfter book ps)
+  pub mark : (ps : List (List ℕ)) → tableAfter book ps .over ≡ isOver (historyAfter book ps)
+  -- "and size equals executed plus cancelled plus passed on plus open"; 01: every table reached from empty is undamaged
+  pub sound : (ps : List (List ℕ)) → undamaged limit (tableAfter book ps) ≡ true
+  pub descent : (ps : List (List ℕ)) → Descent (tableAfter book ps .orders)
+  -- "Refused lines count for nothing.": the accepted ones alone reach the same table, and all of them are accepted again
+  pub same-table : (ps : List (List ℕ)) → tableAfter book (acceptedOf book ps) ≡ tableAfter book ps
+  pub all-again : (ps : List (List ℕ)) → acceptedOf book (acceptedOf book ps) ≡ acceptedOf book ps
+  -- "An order replaced itself.": one token as both the new order and the old one
+  pub story : (ps : List (List ℕ)) (p : List ℕ) (r : Record) → read p ≡ value (line r) → r .event ≡ Replaced → r .token ≡ r .replaced
+      → let h = historyAfter book ps in
+      answerTo book ps p ≡ cond (isOver h) (refused 6 0) (cond (known (keyOf r) h) (refused 7 0) (refused 8 0))

@@ -1,0 +1,130 @@
+-- The state machine of the day: a table of orders in order of acceptance, and booking one piece.
+use Prim.Native.Nat.{ℕ, zero, suc, _-_}
+use mathlib.Core.Bool.{Bool, true, false, cond, not, _&&_, _||_}
+use mathlib.Core.List.{List, [], _∷_, _++_}
+use lib.Dec.{ltb, leb, eqb}
+use lib.ListN.{length}
+use Rattle.refusal.specs.Answer.{Answer, value, refused}
+use Rattle.layout.specs.Line.{Said, endOfDay, line, read}
+use Rattle.layout.specs.declared.Event.{Event}
+use Rattle.layout.specs.declared.Event.the-variants.{Accepted, Executed, Cancelled, Broken, Replaced, Repriced}
+use Rattle.layout.specs.declared.Record.{Record}
+use Rattle.order.specs.Figure.{freshBy, executedBy, brokenBy, cancelledBy, passedOn}
+use Rattle.order.specs.Names.{keyOf, elderKeyOf, seriesOf, sameKey, sameSeries}
+use Rattle.order.specs.declared.Figures.{Figures}
+use Rattle.order.specs.declared.Key.{Key}
+use Rattle.order.specs.declared.Order.{Order}
+use Rattle.day.specs.History.{History, isNew, isExecution, isCancel, isBreak, isReplace, isReprice, isMaker, oneMore}
+use Rattle.day.specs.Refusals.{subject}
+
+pub record Table : Type 0 where
+  pub orders : List Order
+  pub over : Bool
+
+abbrev pub empty : Table
+empty = record { orders = []; over = false }
+
+pub data Found : Type 0 where
+  nobody : Found
+  found : Order → Found
+
+-- 01, Orders and their figures: a lookup by key means the earliest order with it
+abbrev pub find : Key → List Order → Found
+find k [] = nobody
+find k (o ∷ os) = cond (sameKey (o .key) k) (found o) (find k os)
+
+-- one more than its place, or 0
+abbrev pub place : Key → List Order → ℕ
+place k [] = 0
+place k (o ∷ os) = cond (sameKey (o .key) k) 1 (oneMore (place k os))
+
+-- the earliest order with a key is changed, if there is one
+abbrev pub amend : Key → (Order → Order) → List Order → List Order
+amend k f [] = []
+amend k f (o ∷ os) = cond (sameKey (o .key) k) (f o ∷ os) (o ∷ amend k f os)
+
+-- ---- the tests behind refusals 7 to 11
+
+abbrev pub isFound : Found → Bool
+isFound nobody = false
+isFound (found o) = true
+
+abbrev pub differs : Record → Found → Bool
+differs r nobody = false
+differs r (found o) = not (eqb (o .side) (r .side) && sameSeries (o .series) (seriesOf r))
+
+abbrev pub notOpen : Record → Found → Bool
+notOpen r nobody = false
+notOpen r (found o) =
+    (isExecution (r .event) || isCancel (r .event)) && ltb (o .figures .«open») (r .contracts)
+    || (isReplace (r .event) || isReprice (r .event)) && eqb (o .figures .«open») 0
+
+abbrev pub notExecuted : Record → Found → Bool
+notExecuted r nobody = false
+notExecuted r (found o) = isBreak (r .event) && ltb (o .figures .executed - o .figures .broken) (r .contracts)
+
+-- 01, Order of checks: 6 to 12; 0 where none is given
+abbrev pub refusalOf : ℕ → Table → Said → ℕ
+refusalOf limit t endOfDay = cond (t .over) 6 0
+refusalOf limit t (line r) =
+    let theirs = find (subject r) (t .orders) in
+    cond (t .over) 6
+    (cond (isMaker (r .event) && isFound (find (keyOf r) (t .orders))) 7
+    (cond (not (isNew (r .event)) && not (isFound theirs)) 8
+    (cond (not (isNew (r .event)) && differs r theirs) 9
+    (cond (not (isNew (r .event)) && notOpen r theirs) 10
+    (cond (not (isNew (r .event)) && notExecuted r theirs) 11
+    (cond (isMaker (r .event) && leb limit (length (t .orders))) 12 0))))))
+
+-- ---- what an accepted line does
+
+abbrev pub withFigures : (Figures → Figures) → Order → Order
+withFigures f o =
+    record { key = o .key; side = o .side; series = o .series; price = o .price; elder = o .elder; figures = f (o .figures) }
+
+abbrev pub withPrice : ℕ → Order → Order
+withPrice p o =
+    record { key = o .key; side = o .side; series = o .series; price = p; elder = o .elder; figures = o .figures }
+
+abbrev pub newOrder : Record → ℕ → Order
+newOrder r elder =
+    record {
+      key = keyOf r;
+      side = r .side;
+      series = seriesOf r;
+      price = r .price;
+      elder = elder;
+      figures = freshBy (r .contracts);
+    }
+
+-- 01, Orders and their figures
+abbrev pub bookEvent : Event → Record → List Order → List Order
+bookEvent Accepted r os = os ++ (newOrder r 0 ∷ [])
+bookEvent (Executed t) r os = amend (keyOf r) (withFigures (λ f. executedBy f (r .contracts))) os
+bookEvent Cancelled r os = amend (keyOf r) (withFigures (λ f. cancelledBy f (r .contracts))) os
+bookEvent (Broken t) r os = amend (keyOf r) (withFigures (λ f. brokenBy f (r .contracts))) os
+bookEvent Replaced r os = amend (elderKeyOf r) (withFigures passedOn) os ++ (newOrder r (place (elderKeyOf r) os) ∷ [])
+bookEvent Repriced r os = amend (keyOf r) (withPrice (r .price)) os
+
+abbrev pub accept : Said → Table → Table
+accept endOfDay t = record { orders = t .orders; over = true }
+accept (line r) t = record { orders = bookEvent (r .event) r (t .orders); over = t .over }
+
+-- ---- booking a piece
+
+pub record Booked : Type 0 where
+  pub table : Table
+  pub answer : Answer (Unit {0})
+
+abbrev pub bookSaid : ℕ → Table → Said → Booked
+bookSaid limit t x =
+    cond (eqb (refusalOf limit t x) 0) (record { table = accept x t; answer = value tt })
+    (record { table = t; answer = refused (refusalOf limit t x) 0 })
+
+abbrev pub bookRead : ℕ → Table → Answer Said → Booked
+bookRead limit t (value x) = bookSaid limit t x
+bookRead limit t (refused n f) = record { table = t; answer = refused n f }
+
+-- 01, Order of checks: booking a piece: 1, 2, 3, then 6 to 12
+abbrev pub book : ℕ → Table → List ℕ → Booked
+book limit t p = bookRead limit t (read p)
