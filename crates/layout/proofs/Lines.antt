@@ -13,14 +13,14 @@ use Rattle.field.specs.Byte.{isOf, all}
 use Rattle.field.specs.Kept.{member}
 use Rattle.field.specs.declared.Class.the-variants.{Printable}
 use Rattle.layout.specs.Demand2.{rowAt, isGot, keeps, holds, LawfulLine, LawfulRecord}
-use Rattle.layout.specs.Layout.{Row, layout, types, liquidities, denominators, part, firstUnlawful, writeRows, tiles}
+use Rattle.layout.specs.Layout.{Row, layout, types, liquidities, denominators, part, firstUnlawful, writeRows, placed, fitting}
 use Rattle.layout.specs.Line.{crlf, same, isLine, printable, rowsOf, rowsFor, lineOf}
 use Rattle.layout.specs.Records.{typeOf, fieldsOf, recordOf, runOf, byteAt}
 use Rattle.layout.specs.Rule.{Rule, number, code, kept, text, blank, Value, gotRun, reads, fits}
 use Rattle.layout.specs.declared.Record.{Record}
 use Rattle.layout.proofs.First.{first-every, every-first}
 use Rattle.layout.proofs.Rules.{both}
-use Rattle.layout.proofs.Rows.{readsAt, valueOf, told, firstBroken}
+use Rattle.layout.proofs.Rows.{tiles, tiles-from, readsAt, valueOf, told, firstBroken}
 use Rattle.layout.proofs.Rows.{lawful-first, first-lawful, told-lawful, lawful-width, lawful-printable, lawful-told}
 use Rattle.layout.proofs.Values.{record-fields, fields-record}
 
@@ -30,12 +30,18 @@ fits-either : (t : Bool) (a b : Rule) (w : ℕ) → fits a w ≡ true → fits b
 fits-either true a b w x y = x
 fits-either false a b w x y = y
 
-tiles-layout : (t d : ℕ) → tiles 1 0 (layout t d) ≡ true
-tiles-layout t d = rw (
+placed-layout : (t d : ℕ) → placed 1 0 (layout t d) ≡ true
+placed-layout t d = refl
+
+fitting-layout : (t d : ℕ) → fitting (layout t d) ≡ true
+fitting-layout t d = rw (
   fits-either (eqb t 69 || eqb t 67) (code liquidities) (kept blank) 1 refl refl,
   fits-either (eqb t 85) (kept text) (kept blank) 20 refl refl,
   fits-either (eqb t 69 || eqb t 67) (number 0 999999999) (kept blank) 9 refl refl,
 )
+
+tiles-layout : (t d : ℕ) → tiles 1 0 (layout t d) ≡ true
+tiles-layout t d = tiles-from 1 0 (layout t d) (placed-layout t d) (fitting-layout t d)
 
 -- ---- the codes by which a layout goes
 

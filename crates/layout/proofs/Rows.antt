@@ -12,7 +12,7 @@ use lib.Seq.{take-at, drop-at, drop-drop, append-snoc, length-take-le}
 use Rattle.field.specs.Byte.{isOf, all}
 use Rattle.field.specs.declared.Class.the-variants.{Printable}
 use Rattle.layout.specs.Demand2.{isGot}
-use Rattle.layout.specs.Layout.{Row, part, breaks, say, onGot, readRows, firstUnlawful, writeRows, tiles}
+use Rattle.layout.specs.Layout.{Row, part, breaks, say, onGot, readRows, firstUnlawful, writeRows, placed, fitting}
 use Rattle.layout.specs.Rule.{Value, num, Got, got, broken, reads, lawful, writes, fits}
 use Rattle.layout.proofs.Rules.{both, reads-writes, writes-reads, writes-printable, all-append}
 
@@ -22,6 +22,18 @@ width [] = 0
 width (r ∷ rs) = r .len + width rs
 
 -- ---- rows that tile
+
+-- the fields are placed one behind another, and what each rule allows has room
+abbrev pub tiles : ℕ → ℕ → List Row → Bool
+tiles n at [] = true
+tiles n at (r ∷ rs) = eqb (r .no) n && eqb (r .at) at && fits (r .rule) (r .len) && tiles (n + 1) (at + r .len) rs
+
+pub tiles-from : (n at : ℕ) (rows : List Row) → placed n at rows ≡ true → fitting rows ≡ true → tiles n at rows ≡ true
+tiles-from n at [] p f = refl
+tiles-from n at (r ∷ rs) p f =
+    let a = both (eqb (r .no) n && eqb (r .at) at) (placed (n + 1) (at + r .len) rs) p in
+    let b = both (fits (r .rule) (r .len)) (fitting rs) f in
+    rw (a .0, b .0) (tiles-from (n + 1) (at + r .len) rs (a .1) (b .1))
 
 record Tile (n at : ℕ) (r : Row) (rs : List Row) : Type 0 where
   numbered : r .no ≡ n

@@ -113,7 +113,12 @@ writeRows [] vs = []
 writeRows (r ∷ rs) [] = []
 writeRows (r ∷ rs) (v ∷ vs) = writes (r .rule) (r .len) v ++ writeRows rs vs
 
--- each field stands right behind the one before, is numbered one more, and what it allows has room
-abbrev pub tiles : ℕ → ℕ → List Row → Bool
-tiles n at [] = true
-tiles n at (r ∷ rs) = eqb (r .no) n && eqb (r .at) at && fits (r .rule) (r .len) && tiles (n + 1) (at + r .len) rs
+-- each field is numbered one more than the one before and stands right behind it
+abbrev pub placed : ℕ → ℕ → List Row → Bool
+placed n at [] = true
+placed n at (r ∷ rs) = eqb (r .no) n && eqb (r .at) at && placed (n + 1) (at + r .len) rs
+
+-- what each rule allows has room in its field
+abbrev pub fitting : List Row → Bool
+fitting [] = true
+fitting (r ∷ rs) = fits (r .rule) (r .len) && fitting rs
