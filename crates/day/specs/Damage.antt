@@ -1,9 +1,9 @@
 -- 01, Damaged, as far as it speaks of orders. What a stored field may be is decided by the rules of the line.
 use Prim.Native.Nat.{ℕ, zero, suc, _+_, _-_}
-use mathlib.Core.Bool.{Bool, true, false, not, _&&_, _||_}
+use mathlib.Core.Bool.{Bool, true, not, _&&_, _||_}
 use mathlib.Core.List.{List, [], _∷_, map}
 use lib.Dec.{leb, eqb}
-use lib.ListN.{length, getD}
+use lib.ListN.{length}
 use Rattle.field.specs.Kept.{member}
 use Rattle.layout.specs.Layout.{sides, months, denominators, leastStrike}
 use Rattle.layout.specs.Records.{one}

@@ -1,7 +1,7 @@
 -- The tender's demand 3, in the order of its sentences, of any booking and any way to make the sheet. proofs/Demand3.antt proves it of ours.
 use Prim.Native.Nat.{ℕ, _+_, _≤_, _<_}
 use mathlib.Core.Path.{_≡_}
-use mathlib.Core.Bool.{Bool, true, false, cond}
+use mathlib.Core.Bool.{true, cond}
 use mathlib.Core.List.{List, [], _∷_}
 use mathlib.Core.Logic.{_↔_}
 use lib.ListN.{length, getD}
@@ -10,11 +10,10 @@ use Rattle.layout.specs.Line.{Said, line, read}
 use Rattle.layout.specs.declared.Event.the-variants.{Replaced}
 use Rattle.layout.specs.declared.Record.{Record}
 use Rattle.order.specs.Names.{keyOf, sameKey}
-use Rattle.order.specs.declared.Figures.{Figures}
 use Rattle.order.specs.declared.Order.{Order}
 use Rattle.day.specs.Damage.{undamaged, eldersOf}
 use Rattle.day.specs.History.{History, ordersOf, isOver, known, countOf, isNew, isMaker}
-use Rattle.day.specs.Listing.{Sheet, Listed, shown, elderAt}
+use Rattle.day.specs.Listing.{Row, Sheet, Listed, shown, elderAt}
 use Rattle.day.specs.Machine.{Table, empty, Booked}
 use Rattle.day.specs.Refusals.{rules, NoneOf, FirstOf}
 
@@ -73,6 +72,9 @@ pub record Demand3 (limit : ℕ) (book : Table → List ℕ → Booked) (sheet :
   pub no-other : (ps : List (List ℕ)) (i : ℕ) → length (ordersOf (historyAfter book ps)) ≤ i → shown i (sheet (tableAfter book ps) .rows) ≡ 0
   -- "families by the acceptance of their first order, each from eldest to youngest"
   pub in-order : (ps : List (List ℕ)) → Listed (eldersOf (ordersOf (historyAfter book ps))) (sheet (tableAfter book ps) .rows)
+  -- and nothing else is so listed
+  pub only-so : (ps : List (List ℕ)) (rows : List Row) → Listed (eldersOf (ordersOf (historyAfter book ps))) rows
+      → rows ≡ sheet (tableAfter book ps) .rows
   -- N counts accepted A and U, F accepted A
   pub counts-orders : (ps : List (List ℕ)) → sheet (tableAfter book ps) .orders ≡ countOf isMaker (historyAfter book ps)
   pub counts-families : (ps : List (List ℕ)) → sheet (tableAfter book ps) .families ≡ countOf isNew (historyAfter book ps)

@@ -1,5 +1,5 @@
 -- The state machine of the day: a table of orders in order of acceptance, and booking one piece.
-use Prim.Native.Nat.{ℕ, zero, suc, _-_}
+use Prim.Native.Nat.{ℕ, _-_}
 use mathlib.Core.Bool.{Bool, true, false, cond, not, _&&_, _||_}
 use mathlib.Core.List.{List, [], _∷_, _++_}
 use lib.Dec.{ltb, leb, eqb}
@@ -14,7 +14,7 @@ use Rattle.order.specs.Names.{keyOf, elderKeyOf, seriesOf, sameKey, sameSeries}
 use Rattle.order.specs.declared.Figures.{Figures}
 use Rattle.order.specs.declared.Key.{Key}
 use Rattle.order.specs.declared.Order.{Order}
-use Rattle.day.specs.History.{History, isNew, isExecution, isCancel, isBreak, isReplace, isReprice, isMaker, oneMore}
+use Rattle.day.specs.History.{isNew, isExecution, isCancel, isBreak, isReplace, isReprice, isMaker, oneMore}
 use Rattle.day.specs.Refusals.{subject}
 
 pub record Table : Type 0 where

@@ -9,7 +9,7 @@ use Rattle.refusal.specs.Answer.{value, refused}
 use Rattle.layout.specs.Layout.{Row, row, part}
 use Rattle.layout.specs.Line.{line, endOfDay, crlf, isLine, printable, rowsOf, rowsFor, read, write, lineOf}
 use Rattle.layout.specs.Records.{fieldsOf}
-use Rattle.layout.specs.Rule.{Value, num, Got, got, broken, kept, blank, reads, lawful}
+use Rattle.layout.specs.Rule.{num, Got, got, broken, kept, blank, reads, lawful}
 use Rattle.layout.specs.declared.Record.{Record}
 
 -- the row of field n, counted from 1

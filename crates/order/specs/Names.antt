@@ -1,5 +1,4 @@
 -- 01, Orders and their figures: keys and series, as a line gives them, and when two are the same.
-use Prim.Native.Nat.{ℕ}
 use mathlib.Core.Bool.{Bool, _&&_}
 use lib.Dec.{eqb}
 use Rattle.layout.specs.Line.{same}

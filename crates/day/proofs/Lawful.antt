@@ -1,0 +1,34 @@
+-- What a lawful line gives an order is lawful in the table.
+use Prim.Native.Nat.{ℕ}
+use native.Mathlib.Omega.{arith}
+use mathlib.Core.Path.{_≡_}
+use mathlib.Core.Bool.{true}
+use Rattle.layout.specs.Demand2.{LawfulRecord}
+use Rattle.layout.specs.declared.Record.{Record}
+use Rattle.field.proofs.Fill.{between}
+use Rattle.day.specs.Damage.{soundOrder, soundFigures}
+use Rattle.day.specs.Machine.{newOrder}
+use Rattle.day.proofs.Figures.{sound-figures, fresh-sound}
+use Rattle.order.specs.Figure.{freshBy}
+
+module _ (r : Record) (l : LawfulRecord r) where
+  fresh-figures : soundFigures (freshBy (r .contracts)) ≡ true
+  fresh-figures =
+      let n = between 1 999999 (r .contracts) (l .fields 15 (omega arith) (omega arith)) in
+      sound-figures (freshBy (r .contracts)) (fresh-sound (r .contracts) (n .0) (n .1))
+
+  pub new-sound : (elder : ℕ) → soundOrder (newOrder r elder) ≡ true
+  new-sound e =
+      rw (
+        l .fields 10 (omega arith) (omega arith),
+        l .fields 11 (omega arith) (omega arith),
+        l .fields 14 (omega arith) (omega arith),
+        l .fields 16 (omega arith) (omega arith),
+        l .fields 17 (omega arith) (omega arith),
+        l .fields 18 (omega arith) (omega arith),
+        l .fields 19 (omega arith) (omega arith),
+        l .fields 20 (omega arith) (omega arith),
+        l .fields 21 (omega arith) (omega arith),
+        l .fields 22 (omega arith) (omega arith),
+        fresh-figures,
+      )

@@ -1,0 +1,163 @@
+-- Looking up, placing and changing orders by key, in any table and in that of a legal history.
+use Prim.Native.Nat.{ℕ, zero, suc, _≤_}
+use native.Mathlib.Omega.{arith}
+use mathlib.Core.Path.{_≡_, refl, sym, ap, _∙_}
+use mathlib.Core.Bool.{Bool, true, false, cond, _||_, false≢true}
+use mathlib.Core.List.{List, [], _∷_, _++_, map, map-append}
+use Rattle.layout.proofs.Rules.{both}
+use Rattle.layout.specs.Line.{endOfDay, line}
+use Rattle.layout.specs.declared.Record.{Record}
+use Rattle.order.specs.Names.{keyOf, sameKey}
+use Rattle.order.specs.declared.Key.{Key}
+use Rattle.order.specs.declared.Order.{Order}
+use Rattle.day.specs.History.{History, isMaker, makes, makers, oneMore, placeOf, orderOf, ordersOf, known, making, isOver}
+use Rattle.day.specs.Machine.{Table, Found, nobody, found, find, isFound, place, amend}
+use Rattle.day.proofs.KeyTest.{key-eq}
+use Rattle.day.proofs.Legal.{Legal, fresh-unknown}
+
+-- ---- any table
+
+-- the order found first, or else the other
+abbrev orElse : Found → Found → Found
+orElse nobody f = f
+orElse (found o) f = found o
+
+find-append : (k : Key) (os ps : List Order) → find k (os ++ ps) ≡ orElse (find k os) (find k ps)
+find-append k [] ps = refl
+find-append k (o ∷ os) ps = go (sameKey (o .key) k) (find-append k os ps)
+  where
+    go : (t : Bool) → find k (os ++ ps) ≡ orElse (find k os) (find k ps)
+        → cond t (found o) (find k (os ++ ps)) ≡ orElse (cond t (found o) (find k os)) (find k ps)
+    go true ih = refl
+    go false ih = ih
+
+amend-append : (k : Key) (f : Order → Order) (os ps : List Order)
+    → amend k f (os ++ ps) ≡ amend k f os ++ cond (isFound (find k os)) ps (amend k f ps)
+amend-append k f [] ps = refl
+amend-append k f (o ∷ os) ps = go (sameKey (o .key) k) (amend-append k f os ps)
+  where
+    go : (t : Bool) → amend k f (os ++ ps) ≡ amend k f os ++ cond (isFound (find k os)) ps (amend k f ps)
+        → cond t (f o ∷ (os ++ ps)) (o ∷ amend k f (os ++ ps))
+        ≡ cond t (f o ∷ os) (o ∷ amend k f os) ++ cond (isFound (cond t (found o) (find k os))) ps (amend k f ps)
+    go true ih = refl
+    go false ih = ap {B = List Order} (λ l. o ∷ l) ih
+
+-- who is found has a place, whoever comes later
+pub place-found : (k : Key) (os ps : List Order) → isFound (find k os) ≡ true → (1 ≤ place k os) × (place k (os ++ ps) ≡ place k os)
+place-found k [] ps e = absurd (false≢true e)
+place-found k (o ∷ os) ps e = go (sameKey (o .key) k) (place-found k os ps) e
+  where
+    more : (n : ℕ) → 1 ≤ n → 1 ≤ oneMore n
+    more zero h = h
+    more (suc n) h = omega arith
+
+    go : (t : Bool) → (isFound (find k os) ≡ true → (1 ≤ place k os) × (place k (os ++ ps) ≡ place k os))
+        → isFound (cond t (found o) (find k os)) ≡ true
+        → (1 ≤ cond t 1 (oneMore (place k os))) × (cond t 1 (oneMore (place k (os ++ ps))) ≡ cond t 1 (oneMore (place k os)))
+    go true ih e = (omega arith, refl)
+    go false ih e = (more (place k os) (ih e .0), ap oneMore (ih e .1))
+
+-- changed, if it has the key
+abbrev pub changed : Key → (Order → Order) → Order → Order
+changed k f o = cond (sameKey (o .key) k) (f o) o
+
+-- ---- the orders that the lines of a legal history made
+
+pub made-key : (k : Key) (none : Record) (h : History) → known k h ≡ true → keyOf (making k h none) ≡ k
+made-key k none [] e = absurd (false≢true e)
+made-key k none (endOfDay ∷ h) e = made-key k none h e
+made-key k none (line r ∷ h) e = go (makes k r) refl (made-key k none h) e
+  where
+    go : (t : Bool) → makes k r ≡ t → (known k h ≡ true → keyOf (making k h none) ≡ k)
+        → (t || known k h) ≡ true → keyOf (cond t r (making k h none)) ≡ k
+    go true q ih e = key-eq (keyOf r) k (both (isMaker (r .event)) (sameKey (keyOf r) k) q .1)
+    go false q ih e = ih e
+
+-- whatever g keeps of a line beside its key
+module _ (g : Record → Order) (keys : (m : Record) → g m .key ≡ keyOf m) where
+  key-test : (k : Key) (m : Record) → sameKey (g m .key) k ≡ sameKey (keyOf m) k
+  key-test k m = ap (λ (x : Key). sameKey x k) (keys m)
+
+  place-map : (k : Key) (rs : List Record) → place k (map g rs) ≡ placeOf k rs
+  place-map k [] = refl
+  place-map k (r ∷ rs) = rw (key-test k r, place-map k rs)
+
+  -- a lookup finds the order that the line with that key made
+  find-made : (k : Key) (none : Record) (h : History) → Legal h
+      → find k (map g (makers h)) ≡ cond (known k h) (found (g (making k h none))) nobody
+  find-made k none [] l = refl
+  find-made k none (endOfDay ∷ h) l = find-made k none h l
+  find-made k none (line r ∷ h) l = go (isMaker (r .event)) refl (find-made k none h (l .1))
+    where
+      last : (s t : Bool) (x : Record) → (s ≡ true → t ≡ false)
+          → orElse (cond t (found (g x)) nobody) (cond s (found (g r)) nobody) ≡ cond (s || t) (found (g (cond s r x))) nobody
+      last true true x n = absurd (false≢true (sym (n refl)))
+      last true false x n = refl
+      last false true x n = refl
+      last false false x n = refl
+
+      go : (t : Bool) → isMaker (r .event) ≡ t
+          → find k (map g (makers h)) ≡ cond (known k h) (found (g (making k h none))) nobody
+          → find k (map g (makers (line r ∷ h))) ≡ cond (known k (line r ∷ h)) (found (g (making k (line r ∷ h) none))) nobody
+      go true q ih =
+          rw (q, map-append g (makers h) (r ∷ []), find-append, ih, key-test k r)
+          (last (sameKey (keyOf r) k) (known k h) (making k h none) (fresh-unknown h r k (l .0) q))
+      go false q ih = rw q ih
+
+  found-known : (k : Key) (none : Record) (h : History) → Legal h → isFound (find k (map g (makers h))) ≡ known k h
+  found-known k none h l = ap isFound (find-made k none h l) ∙ go (known k h)
+    where
+      go : (t : Bool) → isFound (cond t (found (g (making k h none))) nobody) ≡ t
+      go true = refl
+      go false = refl
+
+  -- a change by key is a change of every order that has the key
+  amend-made : (k : Key) (f : Order → Order) (h : History) → Legal h
+      → amend k f (map g (makers h)) ≡ map (λ m. changed k f (g m)) (makers h)
+  amend-made k f [] l = refl
+  amend-made k f (endOfDay ∷ h) l = amend-made k f h l
+  amend-made k f (line r ∷ h) l = go (isMaker (r .event)) refl (amend-made k f h (l .1))
+    where
+      last : (s t : Bool) → (s ≡ true → t ≡ false) → (os : List Order)
+          → os ++ cond t (g r ∷ []) (cond s (f (g r) ∷ []) (g r ∷ [])) ≡ os ++ (cond s (f (g r)) (g r) ∷ [])
+      last true true n os = absurd (false≢true (sym (n refl)))
+      last true false n os = refl
+      last false true n os = refl
+      last false false n os = refl
+
+      go : (t : Bool) → isMaker (r .event) ≡ t
+          → amend k f (map g (makers h)) ≡ map (λ m. changed k f (g m)) (makers h)
+          → amend k f (map g (makers (line r ∷ h))) ≡ map (λ m. changed k f (g m)) (makers (line r ∷ h))
+      go true q ih =
+          let c : Record → Order = λ m. changed k f (g m) in
+          rw (q, map-append g (makers h) (r ∷ []), map-append c (makers h) (r ∷ []), amend-append, found-known k r h (l .1), ih, key-test k r)
+          (last (sameKey (keyOf r) k) (known k h) (fresh-unknown h r k (l .0) q) (map c (makers h)))
+      go false q ih = rw q ih
+
+-- ---- the table that a history declares
+
+abbrev pub dayOf : History → Table
+dayOf h = record { orders = ordersOf h; over = isOver h }
+
+pub place-order : (k : Key) (h : History) → place k (ordersOf h) ≡ placeOf k (makers h)
+place-order k h = place-map (orderOf h) (λ m. refl) k (makers h)
+
+pub find-order : (k : Key) (none : Record) (h : History) → Legal h
+    → find k (ordersOf h) ≡ cond (known k h) (found (orderOf h (making k h none))) nobody
+find-order k none h l = find-made (orderOf h) (λ m. refl) k none h l
+
+pub is-known : (k : Key) (none : Record) (h : History) → Legal h → isFound (find k (ordersOf h)) ≡ known k h
+is-known k none h l = found-known (orderOf h) (λ m. refl) k none h l
+
+pub amend-orders : (k : Key) (f : Order → Order) (h : History) → Legal h
+    → amend k f (ordersOf h) ≡ map (λ m. changed k f (orderOf h m)) (makers h)
+amend-orders k f h l = amend-made (orderOf h) (λ m. refl) k f h l
+
+-- who has a place keeps it when a line makes one more order
+pub place-kept : (k : Key) (r : Record) (h : History) → Legal h → known k h ≡ true → placeOf k (makers h ++ (r ∷ [])) ≡ placeOf k (makers h)
+place-kept k r h l e =
+    let g = orderOf h in
+    sym (place-map g (λ m. refl) k (makers h ++ (r ∷ [])))
+    ∙ ap (place k) (map-append g (makers h) (r ∷ []))
+    ∙ place-found k (ordersOf h) (g r ∷ []) (is-known k r h l ∙ e) .1
+    ∙ place-order k h

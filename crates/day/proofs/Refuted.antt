@@ -1,0 +1,204 @@
+-- 01, Promises and Errors a quick hand would make: each wrong booking and each wrong sheet breaks demand 3, by a witness.
+use Prim.Native.Nat.{ℕ, _≤_, _<_}
+use native.Mathlib.Omega.{arith}
+use mathlib.Core.Path.{_≡_, refl, sym, ap, subst, _∙_}
+use mathlib.Core.Bool.{_||_, true, false≢true, true≢false}
+use mathlib.Core.List.{List, [], _∷_, map}
+use mathlib.Core.Logic.{⊎-elim}
+use borrow.Author.Tests.{lt-leb}
+use lib.ListN.{length}
+use Rattle.refusal.specs.Answer.{Answer, value, refused}
+use Rattle.layout.proofs.Forms.{no-value}
+use Rattle.layout.specs.Examples.{spaces}
+use Rattle.layout.specs.Line.{Said, endOfDay, line, read, lineOf}
+use Rattle.layout.specs.declared.Event.{Event}
+use Rattle.layout.specs.declared.Event.the-variants.{Accepted, Executed, Broken}
+use Rattle.layout.specs.declared.Record.{Record}
+use Rattle.order.specs.Names.{keyOf}
+use Rattle.order.specs.declared.Figures.{Figures}
+use Rattle.day.specs.Case.{sample, host, token, fill, naming, replacing}
+use Rattle.day.specs.Damage.{openAt}
+use Rattle.day.specs.Demand3.{Demand3, tableAfter, answerTo, historyAfter}
+use Rattle.day.specs.History.{History, ordersOf, isOver, isExecution, isCancel, isReplace, isReprice, openOf, figuresOf}
+use Rattle.day.specs.Listing.{Sheet, shown}
+use Rattle.day.specs.Machine.{Table, empty, Booked, bookEvent, bookRead, book}
+use Rattle.day.specs.Refusals.{subject, rules, NoneOf, Reads, OfOrder, DayOver, KnownKey, UnknownKey, OtherSeries, NotOpen, NotExecuted, Full}
+use Rattle.day.specs.Wrong.{RefusesAll, ChangesNothing, NodsAtRest, InventsOrders, InventsFamilies, ShowsNothing, bookReadWith, bookWith, Lookup, Effect, ownKey, subjectKey, Returns, breakingBy, byToken, ownOpen}
+
+-- with our own parts the machine of specs/Wrong.antt is our booking
+pub ours-is-one : bookWith ownKey subjectKey bookEvent ≡ book
+ours-is-one = λ i limit t p. same limit t (read p) i
+  where
+    same : (limit : ℕ) (t : Table) (a : Answer Said) → bookReadWith ownKey subjectKey bookEvent limit t a ≡ bookRead limit t a
+    same limit t (value endOfDay) = refl
+    same limit t (value (line r)) = refl
+    same limit t (refused n f) = refl
+
+infixr 3 _and_
+_and_ : {A B : Type 0} → A → B → A × B
+_and_ a b = (a, b)
+
+-- no refusal from 6 to 12, and of 10 neither half
+abbrev Allowed : ℕ → History → Record → Type 0
+Allowed limit h r =
+    (DayOver h (line r) → ⊥) × (KnownKey h (line r) → ⊥) × (UnknownKey h (line r) → ⊥) × (OtherSeries h (line r) → ⊥)
+    × (OfOrder h r (((isExecution (r .event) || isCancel (r .event)) ≡ true) × (openOf (subject r) h < r .contracts)) → ⊥)
+    × (OfOrder h r (((isReplace (r .event) || isReprice (r .event)) ≡ true) × (openOf (subject r) h ≡ 0)) → ⊥)
+    × (NotExecuted h (line r) → ⊥)
+    × (Full limit h (line r) → ⊥)
+
+unrefused : (limit : ℕ) (h : History) (r : Record) → read (lineOf r) ≡ value (line r) → Allowed limit h r → NoneOf (rules limit h (lineOf r))
+unrefused limit h r reads allowed =
+    (λ e. no-value (sym e ∙ reads))
+    and (λ e. no-value (sym e ∙ reads))
+    and (λ e. no-value (sym (e .1) ∙ reads))
+    and (λ w. allowed .0 (said w))
+    and (λ w. allowed .1 (said w))
+    and (λ w. allowed .2 (said w))
+    and (λ w. allowed .3 (said w))
+    and (λ w. not-open (said w))
+    and (λ w. allowed .6 (said w))
+    and (λ w. allowed .7 (said w))
+    and tt
+  where
+    said : {P : Said → Type 0} → Reads (lineOf r) P → P (line r)
+    said {P} w = let same : w .0 ≡ line r = cc in subst P same (w .2)
+
+    not-open : NotOpen h (line r) → ⊥
+    not-open w = ⊎-elim (λ e. allowed .4 (w .0, w .1, e)) (λ e. allowed .5 (w .0, w .1, e)) (w .2)
+
+-- after the lines rs, latest first, r reads and no refusal applies to it
+abbrev Fits : ℕ → List Record → Record → Type 0
+Fits limit rs r = (read (lineOf r) ≡ value (line r)) × Allowed limit (map line rs) r
+
+-- the table after them, as the demand has it
+abbrev tableOf : List Record → Table
+tableOf rs = record { orders = ordersOf (map line rs); over = isOver (map line rs) }
+
+-- the witnesses: A T1 30; E T1 30; C T1 30
+abbrev order : Record
+order = naming Accepted 1 30
+
+abbrev trade : Record
+trade = naming (Executed fill) 1 30
+
+abbrev break : Record
+break = naming (Broken fill) 1 30
+
+-- T1 30 of ABCD02
+abbrev elsewhere : Event → Record
+elsewhere event = sample event (host 2) (token 1) (spaces 20) 30
+
+ruleset tests = (arith, false≢true, true≢false)
+
+-- ---- 01, Promises of reader, table and sheet: what meets the demand is none of these
+
+module _ {limit : ℕ} {book : Table → List ℕ → Booked} {sheet : Table → Sheet} (demand : Demand3 limit book sheet) where
+  -- each of the lines is accepted
+  abbrev Taken : List Record → Type 0
+  Taken rs = historyAfter book (map lineOf rs) ≡ map line rs
+
+  held : (rs : List Record) → Taken rs → tableAfter book (map lineOf rs) ≡ tableOf rs
+  held rs all =
+      let ps = map lineOf rs in
+      λ i. record { orders = (demand .figures ps ∙ ap ordersOf all) i; over = (demand .mark ps ∙ ap isOver all) i }
+
+  none-applies : (rs : List Record) (r : Record) → Taken rs
+      → book (tableOf rs) (lineOf r) .answer ≡ value tt
+      → NoneOf (rules limit (map line rs) (lineOf r))
+  none-applies rs r all e = rw all at (demand .accepted (map lineOf rs) (lineOf r) .0 (rw (held rs all, answerTo) e))
+
+  answered : (rs : List Record) (r : Record) → Taken rs → Fits limit rs r → book (tableOf rs) (lineOf r) .answer ≡ value tt
+  answered rs r all fits =
+      let none = unrefused limit (map line rs) r (fits .0) (fits .1) in
+      rw (held rs all, answerTo) at (demand .accepted (map lineOf rs) (lineOf r) .1 (rw all none))
+
+  next : (rs : List Record) (r : Record) → Taken rs → Fits limit rs r → Taken (r ∷ rs)
+  next rs r all fits = rw (held rs all, answerTo, answered rs r all fits, fits .0, all)
+
+  booked : (rs : List Record) (r : Record) → Taken rs → Fits limit rs r
+      → book (tableOf rs) (lineOf r) .table .orders ≡ ordersOf (map line (r ∷ rs))
+  booked rs r all fits = ap (λ t. t .orders) (rw (held rs all) at (held (r ∷ rs) (next rs r all fits)))
+
+  module _ (room : 1 ≤ limit) where
+    order-fits : Fits limit [] order
+    unfolding read lineOf
+    order-fits = (refl, omega tests)
+
+    one : Taken (order ∷ [])
+    one = next [] order refl order-fits
+
+    trade-fits : Fits limit (order ∷ []) trade
+    unfolding read lineOf
+    trade-fits = (refl, omega tests)
+
+    two : Taken (trade ∷ order ∷ [])
+    two = next (order ∷ []) trade one trade-fits
+
+    pub refuses-all : RefusesAll book → ⊥
+    refuses-all refuses = no-value (sym (refuses empty (lineOf order) .2) ∙ answered [] order refl order-fits)
+
+    pub changes-nothing : ChangesNothing book → ⊥
+    changes-nothing same = omega (arith, ap length (sym (same empty (lineOf order)) ∙ booked [] order refl order-fits))
+
+    pub nods-at-rest : NodsAtRest book → ⊥
+    nods-at-rest same =
+        let nod = same (tableOf (order ∷ [])) (lineOf trade) (omega arith) in
+        omega (arith, ap (λ os. openAt os 0) (sym nod ∙ booked (order ∷ []) trade one trade-fits))
+
+    pub invents-orders : InventsOrders sheet → ⊥
+    invents-orders same =
+        let first = demand .counts-orders (lineOf order ∷ []) in
+        omega (arith, same empty (tableOf (order ∷ [])), demand .counts-orders [], rw (held (order ∷ []) one, one) at first)
+
+    pub invents-families : InventsFamilies sheet → ⊥
+    invents-families same =
+        let first = demand .counts-families (lineOf order ∷ []) in
+        omega (arith, same empty (tableOf (order ∷ [])), demand .counts-families [], rw (held (order ∷ []) one, one) at first)
+
+    pub shows-nothing : ShowsNothing sheet → ⊥
+    shows-nothing none =
+        let once = demand .each-once (lineOf order ∷ []) 0 (rw one (omega arith)) in
+        omega (arith, ap (shown 0) (none (tableAfter book (lineOf order ∷ []))), once)
+
+-- ---- 01, Errors a quick hand would make: none of them meets the demand
+
+module _ {limit : ℕ} (room : 2 ≤ limit) {sheet : Table → Sheet} where
+  -- A T1 30; E T1 30; C T1 30: open stays 0
+  pub returns-broken : (broken : Figures → ℕ → Figures) → Returns broken
+      → Demand3 limit (bookWith ownKey subjectKey (breakingBy broken) limit) sheet
+      → ⊥
+  unfolding read lineOf
+  returns-broken broken returns demand =
+      let os = booked demand (trade ∷ order ∷ []) break (two demand (omega arith)) (refl, omega tests) in
+      omega (arith, ap (λ os. openAt os 0) os, returns (figuresOf (keyOf order) (line trade ∷ line order ∷ [])) 30)
+
+  -- "Looking up a U's elder by the line's own token": A T1 30; U T2 for T1, 60: not refused 8
+  pub elder-by-own-token : (effect : Effect) → Demand3 limit (bookWith ownKey ownKey effect limit) sheet → ⊥
+  unfolding read lineOf
+  elder-by-own-token effect demand =
+      no-value (answered demand (order ∷ []) (replacing 2 1 60) (one demand (omega arith)) (refl, omega tests))
+
+  -- A T1 30; A T1 30 of ABCD02: not refused 7
+  pub own-key-by-token : (theirs : Lookup) (effect : Effect)
+      → Demand3 limit (bookWith (λ r. byToken (keyOf r)) theirs effect limit) sheet
+      → ⊥
+  unfolding read lineOf
+  own-key-by-token theirs effect demand =
+      no-value (answered demand (order ∷ []) (elsewhere Accepted) (one demand (omega arith)) (refl, omega tests))
+
+  -- A T1 30; E T1 30 of ABCD02: refused 8
+  pub subject-by-token : (own : Lookup) (effect : Effect)
+      → Demand3 limit (bookWith own (λ r. byToken (subject r)) effect limit) sheet
+      → ⊥
+  unfolding read lineOf
+  subject-by-token own effect demand =
+      let none = none-applies demand (order ∷ []) (elsewhere (Executed fill)) (one demand (omega arith)) refl in
+      none .1 .1 .1 .1 .1 .0 (line (elsewhere (Executed fill)), refl, (refl, refl))
+
+  -- A T1 30; E T1 30; A T1 30: refused 7
+  pub frees-key : (theirs : Lookup) (effect : Effect) → Demand3 limit (bookWith ownOpen theirs effect limit) sheet → ⊥
+  unfolding read lineOf
+  frees-key theirs effect demand =
+      let none = none-applies demand (trade ∷ order ∷ []) order (two demand (omega arith)) (rw (lt-leb limit 1)) in
+      none .1 .1 .1 .1 .0 (line order, refl, (refl, refl))

@@ -1,0 +1,106 @@
+-- Wrong bookings and wrong sheets, as 01 tells them. proofs/Refuted.antt shows that each breaks demand 3.
+use Prim.Native.Nat.{ℕ, _+_, _≤_}
+use mathlib.Core.Path.{_≡_}
+use mathlib.Core.Bool.{Bool, true, cond, not, _&&_}
+use mathlib.Core.List.{List, [], _∷_}
+use lib.Dec.{leb, eqb}
+use lib.ListN.{length}
+use Rattle.refusal.specs.Answer.{Answer, value, refused}
+use Rattle.layout.specs.Line.{Said, endOfDay, line, same, read}
+use Rattle.layout.specs.declared.Event.{Event}
+use Rattle.layout.specs.declared.Record.{Record}
+use Rattle.order.specs.Names.{keyOf, sameKey}
+use Rattle.order.specs.declared.Figures.{Figures}
+use Rattle.order.specs.declared.Key.{Key}
+use Rattle.order.specs.declared.Order.{Order}
+use Rattle.day.specs.History.{isNew, isBreak, isMaker}
+use Rattle.day.specs.Listing.{Sheet}
+use Rattle.day.specs.Machine.{Table, Booked, Found, nobody, found, find, amend, isFound, differs, notOpen, notExecuted, withFigures, bookEvent}
+use Rattle.day.specs.Refusals.{subject}
+
+-- ---- 01, Promises of reader, table and sheet
+
+module _ (book : Table → List ℕ → Booked) where
+  -- "A booking that refuses everything": by whatever numbers
+  abbrev pub RefusesAll : Type 0
+  RefusesAll = (t : Table) (p : List ℕ) → (n : ℕ) × (f : ℕ) × (book t p .answer ≡ refused n f)
+
+  -- "One that accepts and changes nothing": whatever it answers
+  abbrev pub ChangesNothing : Type 0
+  ChangesNothing = (t : Table) (p : List ℕ) → book t p .table .orders ≡ t .orders
+
+  -- "or books the first line and merely nods at the rest"
+  abbrev pub NodsAtRest : Type 0
+  NodsAtRest = (t : Table) (p : List ℕ) → 1 ≤ length (t .orders) → book t p .table .orders ≡ t .orders
+
+module _ (sheet : Table → Sheet) where
+  -- "A sheet whose N and F are invented": the one or the other is the same for any two tables
+  abbrev pub InventsOrders : Type 0
+  InventsOrders = (t u : Table) → sheet t .orders ≡ sheet u .orders
+
+  abbrev pub InventsFamilies : Type 0
+  InventsFamilies = (t u : Table) → sheet t .families ≡ sheet u .families
+
+  -- "One empty sheet for all": whatever its heading
+  abbrev pub ShowsNothing : Type 0
+  ShowsNothing = (t : Table) → sheet t .rows ≡ []
+
+-- ---- 01, Errors a quick hand would make: our machine, with its two lookups and what an accepted line does left open
+
+abbrev pub Lookup : Type 0
+Lookup = Record → List Order → Found
+
+abbrev pub Effect : Type 0
+Effect = Event → Record → List Order → List Order
+
+module _ (own theirs : Lookup) (effect : Effect) (limit : ℕ) where
+  abbrev pub refusalWith : Table → Said → ℕ
+  refusalWith t endOfDay = cond (t .over) 6 0
+  refusalWith t (line r) =
+      cond (t .over) 6
+      (cond (isMaker (r .event) && isFound (own r (t .orders))) 7
+      (cond (not (isNew (r .event)) && not (isFound (theirs r (t .orders)))) 8
+      (cond (not (isNew (r .event)) && differs r (theirs r (t .orders))) 9
+      (cond (not (isNew (r .event)) && notOpen r (theirs r (t .orders))) 10
+      (cond (not (isNew (r .event)) && notExecuted r (theirs r (t .orders))) 11
+      (cond (isMaker (r .event) && leb limit (length (t .orders))) 12 0))))))
+
+  abbrev pub acceptWith : Said → Table → Table
+  acceptWith endOfDay t = record { orders = t .orders; over = true }
+  acceptWith (line r) t = record { orders = effect (r .event) r (t .orders); over = t .over }
+
+  abbrev pub bookReadWith : Table → Answer Said → Booked
+  bookReadWith t (value x) =
+      cond (eqb (refusalWith t x) 0) (record { table = acceptWith x t; answer = value tt })
+      (record { table = t; answer = refused (refusalWith t x) 0 })
+  bookReadWith t (refused n f) = record { table = t; answer = refused n f }
+
+  abbrev pub bookWith : Table → List ℕ → Booked
+  bookWith t p = bookReadWith t (read p)
+
+-- ours: the line's own key, and that of the order it speaks of
+abbrev pub ownKey : Lookup
+ownKey r = find (keyOf r)
+
+abbrev pub subjectKey : Lookup
+subjectKey r = find (subject r)
+
+-- "Returning broken contracts to open.", whatever else becomes of the figures
+abbrev pub Returns : (Figures → ℕ → Figures) → Type 0
+Returns broken = (f : Figures) (n : ℕ) → broken f n .«open» ≡ f .«open» + n
+
+abbrev pub breakingBy : (Figures → ℕ → Figures) → Effect
+breakingBy broken e r os = cond (isBreak e) (amend (keyOf r) (withFigures (λ f. broken f (r .contracts))) os) (bookEvent e r os)
+
+-- the earliest order of which a test holds
+abbrev pub findWhere : (Order → Bool) → List Order → Found
+findWhere test [] = nobody
+findWhere test (o ∷ os) = cond (test o) (found o) (findWhere test os)
+
+-- "Looking up .. any key by token without Source."
+abbrev pub byToken : Key → List Order → Found
+byToken k = findWhere (λ o. same (o .key .token) (k .token))
+
+-- "Freeing an order's key once nothing is open."
+abbrev pub ownOpen : Lookup
+ownOpen r = findWhere (λ o. sameKey (o .key) (keyOf r) && not (eqb (o .figures .«open») 0))
