@@ -12,7 +12,7 @@ const BUFFERS: [u16; 6] = [0, 1, 139, 140, 141, 300];
 /// which is unlawful only where it leads.
 const SPOILING: &[u8] = b" 0/:+-.Aa~";
 /// Both sides of the bounds of text, the bytes that end a line, and the ends of a byte.
-const EDGES: &[u8] = b"\x00\x09\x0A\x0D\x1F\x20\x21\x7E\x7F\x80\xFF";
+pub const EDGES: &[u8] = b"\x00\x09\x0A\x0D\x1F\x20\x21\x7E\x7F\x80\xFF";
 /// What a unit of the strike is worth under each code.
 const UNITS: [u64; 5] = [10_000, 1_000, 100, 10, 1];
 /// The number of random cases for the strike and the clock.
@@ -90,7 +90,7 @@ pub fn lawful_line(letter: u8, random: &mut Random) -> Vec<u8> {
     line
 }
 
-fn lawful_content(field: &Field, random: &mut Random) -> Vec<u8> {
+pub fn lawful_content(field: &Field, random: &mut Random) -> Vec<u8> {
     let optional = matches!(field.rule, Rule::TextOrBlank | Rule::DigitsOrBlank);
     if optional && random.once_in(3) {
         return vec![b' '; field.len];
@@ -116,14 +116,14 @@ fn lawful_text(len: usize, random: &mut Random) -> Vec<u8> {
 }
 
 /// A number right justified; of a longer one, as many of its last digits as there is room for.
-fn right(number: u64, fill: u8, len: usize) -> Vec<u8> {
+pub fn right(number: u64, fill: u8, len: usize) -> Vec<u8> {
     let mut place = vec![fill; len];
     justify(number, fill, &mut place);
     place
 }
 
 /// The text at the front, spaces behind it.
-fn left(text: &str, len: usize) -> Vec<u8> {
+pub fn left(text: &str, len: usize) -> Vec<u8> {
     format!("{text:<len$}").into_bytes()
 }
 
@@ -157,7 +157,7 @@ fn numbers_around(field: &Field) -> Vec<u64> {
 }
 
 /// Contents for a field on a line, of its width.
-fn contents(field: &Field) -> Vec<Vec<u8>> {
+pub fn contents(field: &Field) -> Vec<Vec<u8>> {
     let len = field.len;
     let mut all = vec![vec![b' '; len]];
     match field.rule {
@@ -398,7 +398,7 @@ fn random_cases(count: u64, random: &mut Random, out: &mut impl Write) -> Writte
     Ok(())
 }
 
-fn mutate(line: &mut Vec<u8>, known: &[Vec<Vec<u8>>], random: &mut Random) {
+pub fn mutate(line: &mut Vec<u8>, known: &[Vec<Vec<u8>>], random: &mut Random) {
     let whole = line.len() >= BODY;
     let field = random.pick(&FIELDS);
     match random.below(16) {

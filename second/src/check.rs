@@ -3,6 +3,7 @@
 use std::io::{self, Write};
 
 use crate::cases::{self, put, write_payload};
+use crate::days;
 use crate::line::{self, Reading, CR_LF, FIELDS, LETTERS, LINE};
 use crate::random::Random;
 use crate::record::{places, Record};
@@ -14,9 +15,10 @@ use crate::vectors::{self, executed, reads, refused_field, says, untraded, Vecto
 /// Prints a line for each test; true if none failed.
 pub fn run(out: &mut impl Write) -> io::Result<bool> {
     let (mut passed, mut failed) = (0, 0);
-    let vectors = vectors::papers().into_iter().chain(more());
-    let results = vectors.map(|vector| (vector.name, vector.holds()));
-    for (name, holds) in results.chain(laws().into_iter().map(|(name, law)| (name, law()))) {
+    let vectors = vectors::papers().into_iter().chain(more()).map(|vector| (vector.name, vector.holds()));
+    let captures = days::captures().into_iter().map(|capture| (capture.name, capture.holds()));
+    let laws = laws().into_iter().chain(days::laws()).map(|(name, law)| (name, law()));
+    for (name, holds) in vectors.chain(captures).chain(laws) {
         writeln!(out, "{} {name}", if holds { "ok" } else { "FAILED" })?;
         *(if holds { &mut passed } else { &mut failed }) += 1;
     }
@@ -41,6 +43,7 @@ fn more() -> Vec<Vector> {
     vec![
         refused_field("Liquidity on an A is 3, field 6", untraded("A", &[(6, "A")]), 6),
         refused_field("A blank Liquidity on an E is 3, field 6", executed(&[(6, " ")]), 6),
+        refused_field("A Clearing Account that begins with a space is 3, field 7", executed(&[(7, " BSI")]), 7),
         refused_field("A Replaced Token on an A is 3, field 12", untraded("A", &[(12, "T                   ")]), 12),
         refused_field("A blank Replaced Token on a U is 3, field 12", untraded("U", &[]), 12),
         refused_field("A Match Id on an X is 3, field 23", untraded("X", &[(23, "        1")]), 23),
@@ -75,7 +78,7 @@ fn more() -> Vec<Vector> {
 }
 
 /// A law that runs over many values.
-type Law = (&'static str, fn() -> bool);
+pub type Law = (&'static str, fn() -> bool);
 
 fn laws() -> [Law; 7] {
     [

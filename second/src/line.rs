@@ -11,12 +11,20 @@ use crate::strike;
 pub const BODY: usize = 138;
 pub const LINE: usize = 140;
 pub const CR_LF: &[u8] = b"\r\n";
+pub const LF: u8 = b'\n';
 
 /// The numbers of the fields that this program names.
 pub const TYPE: usize = 2;
 pub const LIQUIDITY: usize = 6;
+pub const SOURCE: usize = 10;
+pub const TOKEN: usize = 11;
+pub const REPLACED_TOKEN: usize = 12;
+pub const SIDE: usize = 14;
+pub const CONTRACTS: usize = 15;
+pub const ROOT: usize = 16;
 pub const DENOMINATOR: usize = 20;
 pub const STRIKE: usize = 21;
+pub const PRICE: usize = 22;
 pub const MATCH_ID: usize = 23;
 pub const CROSS_ID: usize = 24;
 
@@ -119,7 +127,8 @@ impl Field {
         }
     }
 
-    /// Whether the field keeps its rule on this line, all earlier fields keeping theirs.
+    /// Whether the field keeps its rule on this line, its bytes being printable and all earlier
+    /// fields keeping theirs.
     fn lawful(&self, line: &[u8]) -> bool {
         let bytes = &line[self.places()];
         if !self.on.carries(line[TYPE_AT]) {
@@ -131,8 +140,8 @@ impl Field {
             Rule::DigitsOrBlank => digits(bytes) || blank(bytes),
             Rule::Hex => bytes.iter().all(|byte| matches!(byte, b'0'..=b'9' | b'A'..=b'F')),
             Rule::Code(list) => list.contains(&bytes[0]),
-            Rule::Text => text(bytes),
-            Rule::TextOrBlank => text(bytes) || blank(bytes),
+            Rule::Text => bytes[0] != b' ',
+            Rule::TextOrBlank => bytes[0] != b' ' || blank(bytes),
             Rule::Strike => digits(bytes) && strike::value(line[DENOMINATOR_AT], decimal(bytes)).is_ok(),
             // An empty whole part is not zero dollars: six spaces are no number.
             Rule::Price => number(&bytes[..WHOLE]).is_some() && digits(&bytes[WHOLE..]),
@@ -162,16 +171,13 @@ impl Field {
     }
 }
 
-fn printable(byte: u8) -> bool {
-    (0x20..=0x7E).contains(&byte)
+/// Looks at every byte even after a bad one, which lets the compiler take many at a time.
+fn printable(bytes: &[u8]) -> bool {
+    bytes.iter().fold(true, |all, byte| all & (0x20..=0x7E).contains(byte))
 }
 
 fn blank(bytes: &[u8]) -> bool {
     bytes.iter().all(|byte| *byte == b' ')
-}
-
-fn text(bytes: &[u8]) -> bool {
-    bytes[0] != b' ' && bytes.iter().all(|byte| printable(*byte))
 }
 
 fn digits(bytes: &[u8]) -> bool {
@@ -205,27 +211,61 @@ pub fn justify(mut number: u64, fill: u8, place: &mut [u8]) -> bool {
     false
 }
 
-pub enum Reading {
-    EndOfDay,
-    Record(Record),
+/// A line that keeps every rule, its CR LF cut off.
+#[derive(Clone, Copy)]
+pub struct Line<'a>(&'a [u8; BODY]);
+
+impl<'a> Line<'a> {
+    pub fn letter(self) -> u8 {
+        self.0[TYPE_AT]
+    }
+
+    pub fn field(self, number: usize) -> &'a [u8] {
+        &self.0[FIELDS[number - 1].places()]
+    }
+
+    /// The bytes of neighbouring fields, from the first to the last.
+    pub fn fields(self, first: usize, last: usize) -> &'a [u8] {
+        &self.0[FIELDS[first - 1].at..FIELDS[last - 1].places().end]
+    }
+
+    /// What a field that holds a number says, a price in ten-thousandths.
+    pub fn number(self, field: usize) -> u64 {
+        decimal(self.field(field))
+    }
 }
 
-/// Reads a piece, checking in the order 1, 2, 3 (01, Order of checks).
-pub fn read(piece: &[u8]) -> Result<Reading, Refusal> {
+pub enum Lawful<'a> {
+    EndOfDay,
+    Line(Line<'a>),
+}
+
+/// Holds a piece against the rules in the order 1, 2, 3 (01, Order of checks).
+pub fn check(piece: &[u8]) -> Result<Lawful<'_>, Refusal> {
     if piece == CR_LF {
-        return Ok(Reading::EndOfDay);
+        return Ok(Lawful::EndOfDay);
     }
-    if piece.len() != LINE || !piece.ends_with(CR_LF) {
-        return Err(Refusal::Piece);
-    }
-    let body = &piece[..BODY];
-    if !body.iter().all(|byte| printable(*byte)) {
+    let Some((body, CR_LF)) = piece.split_first_chunk::<BODY>() else { return Err(Refusal::Piece) };
+    if !printable(body) {
         return Err(Refusal::Byte);
     }
     if let Some(broken) = FIELDS.iter().find(|field| !field.lawful(body)) {
         return Err(Refusal::Field(broken.number));
     }
-    Ok(Reading::Record(Record::of_line(body)))
+    Ok(Lawful::Line(Line(body)))
+}
+
+pub enum Reading {
+    EndOfDay,
+    Record(Record),
+}
+
+/// Reads a piece into its record.
+pub fn read(piece: &[u8]) -> Result<Reading, Refusal> {
+    Ok(match check(piece)? {
+        Lawful::EndOfDay => Reading::EndOfDay,
+        Lawful::Line(line) => Reading::Record(Record::of_line(line.0)),
+    })
 }
 
 /// Writes a record's line to the front of the buffer, checking 4 before 3. A record is lawful
@@ -234,8 +274,9 @@ pub fn write(record: &Record, buffer: &mut [u8]) -> Result<(), Refusal> {
     let room = buffer.get_mut(..LINE).ok_or(Refusal::Buffer)?;
     let mut line = [b' '; LINE];
     for field in &FIELDS {
-        let fits = field.lay(record, &mut line[field.places()]);
-        if !fits || !field.lawful(&line) {
+        let place = &mut line[field.places()];
+        let fits = field.lay(record, place);
+        if !fits || !printable(place) || !field.lawful(&line) {
             return Err(Refusal::Field(field.number));
         }
     }

@@ -4,10 +4,14 @@
 mod cases;
 mod check;
 mod clock;
+mod day;
+mod days;
 mod line;
 mod random;
 mod record;
 mod refusal;
+mod sheet;
+mod stream;
 mod strike;
 mod trial;
 mod vectors;
@@ -16,7 +20,9 @@ use std::env;
 use std::io::{self, BufReader, BufWriter, Write};
 use std::process::ExitCode;
 
-const USAGE: &str = "usage: second trial < CASES | second cases SEED COUNT | second vectors | second check";
+const USAGE: &str = "\
+usage: second sheet < CAPTURE | second stream SEED COUNT | second trial < CASES | second cases SEED COUNT |
+       second vectors | second check";
 const BUFFER: usize = 1 << 16;
 
 fn main() -> ExitCode {
@@ -34,6 +40,14 @@ fn main() -> ExitCode {
 
 fn command(words: &[&str], output: &mut impl Write) -> io::Result<ExitCode> {
     match *words {
+        ["sheet"] => {
+            let mut input = BufReader::with_capacity(BUFFER, io::stdin().lock());
+            sheet::run(&mut input, output)?;
+        }
+        ["stream", seed, count] => {
+            let (Ok(seed), Ok(count)) = (seed.parse(), count.parse()) else { return Ok(usage()) };
+            stream::write(seed, count, output)?;
+        }
         ["trial"] => {
             let mut input = BufReader::with_capacity(BUFFER, io::stdin().lock());
             trial::run(&mut input, output)?;

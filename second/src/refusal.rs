@@ -3,22 +3,47 @@
 use std::fmt;
 
 /// Why nothing was done. A `Field` carries the number of the first field that breaks its rule.
+/// There is no 5: this program takes no table from outside, and one reached from empty is whole.
 #[derive(Clone, Copy, Debug, PartialEq, Eq)]
 pub enum Refusal {
     Piece,
     Byte,
     Field(usize),
     Buffer,
+    DayOver,
+    KnownKey,
+    UnknownKey,
+    OtherSideOrSeries,
+    TooLittleOpen,
+    TooLittleExecuted,
+    FullTable,
+}
+
+impl Refusal {
+    pub fn number(self) -> usize {
+        match self {
+            Refusal::Piece => 1,
+            Refusal::Byte => 2,
+            Refusal::Field(_) => 3,
+            Refusal::Buffer => 4,
+            Refusal::DayOver => 6,
+            Refusal::KnownKey => 7,
+            Refusal::UnknownKey => 8,
+            Refusal::OtherSideOrSeries => 9,
+            Refusal::TooLittleOpen => 10,
+            Refusal::TooLittleExecuted => 11,
+            Refusal::FullTable => 12,
+        }
+    }
 }
 
 /// `refused R`, with ` field F` after a 3: the words of the trial and of the sheet program alike.
 impl fmt::Display for Refusal {
     fn fmt(&self, out: &mut fmt::Formatter<'_>) -> fmt::Result {
-        match self {
-            Refusal::Piece => write!(out, "refused 1"),
-            Refusal::Byte => write!(out, "refused 2"),
-            Refusal::Field(field) => write!(out, "refused 3 field {field}"),
-            Refusal::Buffer => write!(out, "refused 4"),
+        write!(out, "refused {}", self.number())?;
+        if let Refusal::Field(field) = self {
+            write!(out, " field {field}")?;
         }
+        Ok(())
     }
 }

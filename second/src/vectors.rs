@@ -65,7 +65,7 @@ fn written_back(line: &str) -> String {
 }
 
 /// A line with other contents in some of its fields, by number.
-fn with(line: &[u8], changes: &[(usize, &str)]) -> Vec<u8> {
+pub fn with(line: &[u8], changes: &[(usize, &str)]) -> Vec<u8> {
     changes.iter().fold(line.to_vec(), |line, (number, content)| {
         cases::with(&line, FIELDS[number - 1].places(), content.as_bytes())
     })
@@ -76,7 +76,7 @@ pub fn executed(changes: &[(usize, &str)]) -> Vec<u8> {
 }
 
 /// A line of a type that carries no liquidity and no ids.
-pub fn untraded(letter: &'static str, changes: &[(usize, &str)]) -> Vec<u8> {
+pub fn untraded(letter: &str, changes: &[(usize, &str)]) -> Vec<u8> {
     let line = executed(&[(2, letter), (6, " "), (23, NO_ID), (24, NO_ID)]);
     with(&line, changes)
 }

@@ -1,0 +1,360 @@
+//! A random capture for the sheet programs: mostly lawful traffic that builds long families and
+//! figures near their bounds, mixed with every refusal, broken lines, rubbish and huge pieces.
+
+use std::io::{self, Write};
+
+use crate::cases::{self, lawful_content, lawful_line, EDGES};
+use crate::day::{Day, Figures, Key, Order, Series, MOST};
+use crate::line::{BODY, CONTRACTS, CR_LF, FIELDS, LF, LINE, REPLACED_TOKEN, ROOT, SIDE, SOURCE, STRIKE};
+use crate::random::Random;
+
+/// One of them with an inner space, one nearly all padding.
+const SOURCES: [&[u8; 6]; 4] = [b"ABCD01", b"ABCD02", b"A B~! ", b"A     "];
+/// For each Source, and more than a table holds, so that a new one is soon found.
+const TOKENS: usize = 700;
+const MOST_CONTRACTS: u32 = 999_999;
+const LONGEST: usize = 100_000;
+/// The fields in which a line must agree with its order.
+const AGREED: [usize; 7] = [SIDE, 16, 17, 18, 19, 20, 21];
+
+/// Writes a capture of about so many pieces.
+pub fn write(seed: u64, count: usize, out: &mut impl Write) -> io::Result<()> {
+    let mut stream = Stream::new(seed, count);
+    while stream.pieces < count {
+        let bytes = stream.next();
+        stream.book(&bytes);
+        out.write_all(&bytes)?;
+    }
+    if count > 0 && stream.random.once_in(3) {
+        out.write_all(&stream.cut_short())?;
+    }
+    Ok(())
+}
+
+struct Stream {
+    random: Random,
+    /// Books what is written, so that the next piece can be meant for an order as it stands.
+    day: Day,
+    /// How many pieces were written, and how many there are to be.
+    pieces: usize,
+    count: usize,
+    /// After how many pieces the table is to be full.
+    full: usize,
+    /// One new order in so many begins a family.
+    founding: usize,
+    /// After how many pieces the day is to end.
+    end: usize,
+    series: Vec<Series>,
+    /// Contents for each field, lawful and unlawful.
+    contents: Vec<Vec<Vec<u8>>>,
+    /// The last line that was meant to be lawful.
+    last: Vec<u8>,
+}
+
+impl Stream {
+    fn new(seed: u64, count: usize) -> Stream {
+        let mut random = Random::new(seed);
+        let full = 1 + *random.pick(&[count / 8, count / 2, count, count * 2]);
+        let founding = *random.pick(&[2, 8, 64]);
+        let end = match random.below(8) {
+            0 => random.below(count + 1),
+            1 => count,
+            _ => count - random.below(count / 16 + 1),
+        };
+        let series = alike_series(&mut random);
+        let contents = FIELDS.iter().map(cases::contents).collect();
+        let (day, last) = (Day::default(), Vec::new());
+        Stream { random, day, pieces: 0, count, full, founding, end, series, contents, last }
+    }
+
+    fn book(&mut self, bytes: &[u8]) {
+        for piece in bytes.split_inclusive(|byte| *byte == LF) {
+            self.pieces += 1;
+            // Whether it was refused shows in the day.
+            let _ = self.day.book(piece);
+        }
+    }
+
+    fn next(&mut self) -> Vec<u8> {
+        if self.pieces >= self.end && !self.day.is_over() {
+            return CR_LF.to_vec();
+        }
+        let bytes = match self.random.below(100) {
+            0..=4 => self.spoiled(),
+            5..=7 => self.rubbish(),
+            8 => self.last.clone(),
+            9 => CR_LF.to_vec(),
+            10..=24 => self.refused(),
+            _ => self.lawful(),
+        };
+        // Most days are to last: none ends by chance.
+        let ends_day = bytes.split_inclusive(|byte| *byte == LF).any(|piece| piece == CR_LF);
+        if ends_day && !self.day.is_over() {
+            return self.lawful();
+        }
+        bytes
+    }
+
+    // Lawful lines.
+
+    /// A line that is booked unless the day is over or no order is left for it.
+    fn lawful(&mut self) -> Vec<u8> {
+        let orders = self.day.orders().len();
+        let due = self.pieces * MOST / self.full;
+        self.last = if orders < MOST && orders <= due { self.new_order() } else { self.event() };
+        self.last.clone()
+    }
+
+    fn new_order(&mut self) -> Vec<u8> {
+        let contracts = self.size();
+        let founds = self.random.once_in(self.founding);
+        match self.order(|figures| figures.open > 0) {
+            Some(elder) if !founds => {
+                let key = self.unknown_key(elder.source());
+                self.replacement(key, &elder, contracts)
+            }
+            _ => {
+                let source = *self.random.pick(&SOURCES);
+                let key = self.unknown_key(source);
+                let series = *self.random.pick(&self.series);
+                self.line_with(b'A', &key, &series, contracts)
+            }
+        }
+    }
+
+    fn event(&mut self) -> Vec<u8> {
+        let letter = *self.random.pick(b"EEEEXXCCRR");
+        let can_go = |figures: &Figures| if letter == b'C' { figures.executed - figures.broken } else { figures.open };
+        let Some(order) = self.order(|figures| can_go(figures) > 0) else { return self.refused() };
+        let contracts = if letter == b'R' { self.size() } else { self.part(can_go(&order.figures)) };
+        self.line(letter, &order, contracts)
+    }
+
+    /// A little of what can go, and rarely all of it: the longer the stream, the longer must
+    /// its orders last.
+    fn part(&mut self, most: u32) -> u32 {
+        if self.random.once_in(4 + self.count / 32) {
+            return most;
+        }
+        1 + self.random.below(most as usize / (64 + self.count / 64) + 1) as u32
+    }
+
+    fn size(&mut self) -> u32 {
+        let most = if self.random.once_in(8 + self.count / 2_048) { 9 } else { MOST_CONTRACTS };
+        match self.random.below(4) {
+            0 => most,
+            1 => most - 1,
+            _ => 1 + self.random.below(most as usize) as u32,
+        }
+    }
+
+    /// An order that is as wanted: half the time one of the youngest, which makes long families.
+    fn order(&mut self, wanted: impl Fn(&Figures) -> bool) -> Option<Order> {
+        let orders = self.day.orders();
+        let near = if self.random.once_in(2) { orders.len().min(4) } else { orders.len() };
+        let (older, younger) = orders.split_at(orders.len() - self.random.below(near.max(1)));
+        older.iter().rev().chain(younger.iter().rev()).find(|order| wanted(&order.figures)).cloned()
+    }
+
+    /// A key of a Source that is not in the table.
+    fn unknown_key(&mut self, source: &[u8]) -> Key {
+        loop {
+            let token = token(self.random.below(TOKENS));
+            let mut key = [0; 26];
+            key[..6].copy_from_slice(source);
+            key[6..].copy_from_slice(&token);
+            if self.day.place(&key).is_none() {
+                return key;
+            }
+        }
+    }
+
+    fn line_with(&mut self, letter: u8, key: &Key, series: &Series, contracts: u32) -> Vec<u8> {
+        let mut line = lawful_line(letter, &mut self.random);
+        lay(&mut line, SOURCE, key);
+        lay(&mut line, CONTRACTS, &cases::right(contracts.into(), b' ', 6));
+        lay(&mut line, ROOT, series);
+        line
+    }
+
+    /// A line about an order.
+    fn line(&mut self, letter: u8, order: &Order, contracts: u32) -> Vec<u8> {
+        let mut line = self.line_with(letter, &order.key, &order.series, contracts);
+        lay(&mut line, SIDE, &[order.side]);
+        line
+    }
+
+    /// A line that puts a new order with this key in the place of its elder.
+    fn replacement(&mut self, key: Key, elder: &Order, contracts: u32) -> Vec<u8> {
+        let order = Order { key, ..elder.clone() };
+        let mut line = self.line(b'U', &order, contracts);
+        lay(&mut line, REPLACED_TOKEN, elder.token());
+        line
+    }
+
+    // Lines and pieces that are not.
+
+    /// A line that reads, and breaks a rule of booking from 7 to 12.
+    fn refused(&mut self) -> Vec<u8> {
+        let Some(order) = self.order(|_| true) else { return self.new_order() };
+        let unknown = Order { key: self.unknown_key(order.source()), ..order.clone() };
+        let letter = *self.random.pick(b"EXCR");
+        let contracts = self.size();
+        let full = self.day.orders().len() == MOST;
+        match self.random.below(12) {
+            0 => self.line(b'A', &order, contracts),
+            1 => {
+                let elder = self.order(|figures| figures.open > 0).unwrap_or(unknown);
+                self.replacement(order.key, &elder, contracts)
+            }
+            // One token named twice.
+            2 => self.replacement(order.key, &order, contracts),
+            3 => self.replacement(unknown.key, &unknown, contracts),
+            4 => self.line(letter, &unknown, 1),
+            5 => {
+                // Its token under another Source.
+                let mut other = order;
+                other.key[..6].copy_from_slice(*self.random.pick(&SOURCES));
+                self.line(letter, &other, 1)
+            }
+            6 => {
+                let elder = Order { key: self.unknown_key(order.source()), ..order };
+                self.replacement(unknown.key, &elder, contracts)
+            }
+            7 => {
+                let line = self.line(letter, &order, 1);
+                self.disagreeing(line)
+            }
+            8 => {
+                let line = self.replacement(unknown.key, &order, contracts);
+                self.disagreeing(line)
+            }
+            9 => {
+                let letter = *self.random.pick(b"EX");
+                let Some(order) = self.order(|figures| figures.open < MOST_CONTRACTS) else { return self.new_order() };
+                self.line(letter, &order, order.figures.open + 1)
+            }
+            10 => {
+                let Some(order) = self.order(|figures| figures.open == 0) else { return self.new_order() };
+                if self.random.once_in(2) {
+                    return self.line(b'R', &order, contracts);
+                }
+                let key = self.unknown_key(order.source());
+                self.replacement(key, &order, contracts)
+            }
+            11 if full && self.random.once_in(2) => self.line(b'A', &unknown, contracts),
+            11 if full => self.replacement(unknown.key, &order, contracts),
+            _ => {
+                let left = order.figures.executed - order.figures.broken;
+                self.line(b'C', &order, MOST_CONTRACTS.min(left + 1))
+            }
+        }
+    }
+
+    /// The line with another side, or with another content in one field of its series.
+    fn disagreeing(&mut self, mut line: Vec<u8>) -> Vec<u8> {
+        let field = &FIELDS[*self.random.pick(&AGREED) - 1];
+        loop {
+            let content = lawful_content(field, &mut self.random);
+            if line[field.places()] != content {
+                lay(&mut line, field.number, &content);
+                return line;
+            }
+        }
+    }
+
+    /// A line with some of its bytes or fields changed.
+    fn spoiled(&mut self) -> Vec<u8> {
+        let mut line = if self.random.once_in(4) { self.refused() } else { self.lawful() };
+        for _ in 0..=self.random.below(3) {
+            cases::mutate(&mut line, &self.contents, &mut self.random);
+        }
+        end(line)
+    }
+
+    fn rubbish(&mut self) -> Vec<u8> {
+        let line = self.lawful();
+        let body = &line[..BODY];
+        end(match self.random.below(12) {
+            0 => vec![],
+            1 => b"\r\r\n".to_vec(),
+            2 => b" \r\n".to_vec(),
+            // No CR; a byte too many; two lines without LF between them.
+            3 => body.to_vec(),
+            4 => [body, b" ", CR_LF].concat(),
+            5 => [body, b"\r", &line].concat(),
+            6 => [self.noise(60), line].concat(),
+            7 => self.noise(LINE),
+            8 => self.noise(600),
+            // Long pieces, which both begin and end like a line.
+            9 => [body.repeat(self.random.below(8)), line].concat(),
+            10 => {
+                let most = LONGEST >> self.random.below(10);
+                [body.repeat(self.random.below(most / BODY)), line].concat()
+            }
+            _ => {
+                let most = LONGEST >> self.random.below(10);
+                vec![self.random.any() as u8 | 0x80; self.random.below(most)]
+            }
+        })
+    }
+
+    /// Any bytes, now and then a run of those that mean something.
+    fn noise(&mut self, most: usize) -> Vec<u8> {
+        let length = self.random.below(most);
+        let telling = self.random.once_in(2);
+        let random = &mut self.random;
+        let byte = |_| if telling { *random.pick(EDGES) } else { random.next() as u8 };
+        (0..length).map(byte).collect()
+    }
+
+    /// The last piece of a capture that was broken off.
+    fn cut_short(&mut self) -> Vec<u8> {
+        let line = self.lawful();
+        let anywhere = self.random.below(LINE);
+        line[..*self.random.pick(&[LINE - 1, BODY, anywhere])].to_vec()
+    }
+}
+
+/// A few series, each unlike the first in one field at most.
+fn alike_series(random: &mut Random) -> Vec<Series> {
+    let mut line = lawful_line(b'A', random);
+    // Six full digits, which are lawful under every code.
+    lay(&mut line, STRIKE, &lawful_content(&FIELDS[STRIKE - 1], random));
+    let series = |line: &[u8]| {
+        let mut series = [0; 18];
+        series.copy_from_slice(&line[FIELDS[ROOT - 1].at..FIELDS[STRIKE - 1].places().end]);
+        series
+    };
+    let mut all = vec![series(&line)];
+    for field in &FIELDS[ROOT - 1..STRIKE] {
+        all.push(series(&cases::with(&line, field.places(), &lawful_content(field, random))));
+    }
+    all
+}
+
+/// Tokens short and as wide as their field, with inner spaces, and in the form of an SQF id.
+fn token(number: usize) -> Vec<u8> {
+    let text = match number % 5 {
+        0 => format!("T{number}"),
+        1 => format!("{number:020}"),
+        2 => format!("T {number}"),
+        3 => format!("{number:016X}"),
+        _ => format!("~{number:>9} a"),
+    };
+    cases::left(&text, 20)
+}
+
+/// Puts a content into the line from the front of a field on.
+fn lay(line: &mut [u8], field: usize, content: &[u8]) {
+    let at = FIELDS[field - 1].at;
+    line[at..at + content.len()].copy_from_slice(content);
+}
+
+/// The bytes with an LF at their end.
+fn end(mut bytes: Vec<u8>) -> Vec<u8> {
+    if !bytes.ends_with(&[LF]) {
+        bytes.push(LF);
+    }
+    bytes
+}
