@@ -1,0 +1,120 @@
+-- Laws of numbers and runs in a lent buffer: what is written is read back, and a store elsewhere changes nothing.
+use Prim.Native.Nat.{ℕ, zero, suc, _+_, _-_, _*_, _/_, _%_, _^_, _≤_, _<_}
+use native.Mathlib.Nat.{pow-suc, add-suc}
+use native.Mathlib.Omega.{arith}
+use mathlib.Core.Path.{_≡_, refl, sym, ap, _∙_}
+use mathlib.Core.Bool.{true, and-eq-true-iff}
+use mathlib.Core.List.{List, [], _∷_, append-assoc}
+use borrow.Author.Tests.{ltb-true}
+use lib.Dec.{ltb}
+use lib.ListN.{length, getD, take, drop, set, length-drop, take-append-drop}
+use lib.Seq.{length-take-le, getD-take, getD-drop, take-take, drop-drop, take-add, take-at, drop-at}
+use lib.Seq.{take-set-le, drop-set-lt, drop-set-add, set-set, set-comm, sets, sets-eq}
+use Rattle.field.specs.Byte.{all}
+use Rattle.layout.specs.Layout.{part}
+use Rattle.cell.specs.Cells.{le, leBytes}
+
+-- ---- numbers
+
+pub length-le : (w v : ℕ) → length (leBytes w v) ≡ w
+length-le zero v = refl
+length-le (suc w) v = ap suc (length-le w (v / 256))
+
+pub le-written : (w v : ℕ) → v < 256 ^ w → le (leBytes w v) ≡ v
+le-written zero v h = omega arith
+le-written (suc w) v h = rw (le-written w (v / 256) (omega (arith, pow-suc 256 w))) (omega arith)
+
+first-byte : (b : ℕ) (s : List ℕ) → all (λ b. ltb b 256) (b ∷ s) ≡ true → (b < 256) × (all (λ b. ltb b 256) s ≡ true)
+first-byte b s e = let h = and-eq-true-iff (ltb b 256) (all (λ b. ltb b 256) s) .0 e in (ltb-true b 256 (h .0), h .1)
+
+pub le-below : (s : List ℕ) → all (λ b. ltb b 256) s ≡ true → le s < 256 ^ length s
+le-below [] e = omega arith
+le-below (b ∷ s) e = let h = first-byte b s e in omega (arith, le-below s (h .1), pow-suc 256 (length s))
+
+pub le-read : (s : List ℕ) → all (λ b. ltb b 256) s ≡ true → leBytes (length s) (le s) ≡ s
+le-read [] e = refl
+le-read (b ∷ s) e =
+    let h = first-byte b s e in
+    let low : (b + 256 * le s) % 256 ≡ b = omega arith in
+    let high : (b + 256 * le s) / 256 ≡ le s = omega arith in
+    rw (low, high, le-read s (h .1))
+
+-- ---- parts
+
+pub length-part : (l : List ℕ) (at w : ℕ) → at + w ≤ length l → length (part l at w) ≡ w
+length-part l at w h = length-take-le w (drop at l) (rw length-drop (omega arith))
+
+pub getD-part : (l : List ℕ) (at w i : ℕ) → i < w → getD (part l at w) i 0 ≡ getD l (at + i) 0
+getD-part l at w i h = rw (getD-take, getD-drop)
+
+part-take : (l : List ℕ) (w i n : ℕ) → i + n ≤ w → part (take w l) i n ≡ part l i n
+part-take l w zero n h = take-take n w l (omega arith)
+part-take l zero (suc i) n h = absurd (omega arith)
+part-take [] (suc w) (suc i) n h = refl
+part-take (b ∷ l) (suc w) (suc i) n h = part-take l w i n (omega arith)
+
+pub part-part : (l : List ℕ) (at w i n : ℕ) → i + n ≤ w → part (part l at w) i n ≡ part l (at + i) n
+part-part l at w i n h = part-take (drop at l) w i n h ∙ ap (take n) (drop-drop i at l)
+
+-- ---- a part before, after and inside a run of stores
+
+pub take-sets : (l xs : List ℕ) (at i : ℕ) → i ≤ at → take i (sets l at xs) ≡ take i l
+take-sets l [] at i h = refl
+take-sets l (x ∷ xs) at i h = take-sets (set l at x) xs (suc at) i (omega arith) ∙ take-set-le i l at x h
+
+pub drop-sets : (l xs : List ℕ) (at i : ℕ) → at + length xs ≤ i → drop i (sets l at xs) ≡ drop i l
+drop-sets l [] at i h = refl
+drop-sets l (x ∷ xs) at i h = drop-sets (set l at x) xs (suc at) i (omega arith) ∙ drop-set-lt i l at x (omega arith)
+
+-- a run of stores past the first k is one into the rest
+rest-sets : (l xs : List ℕ) (k at : ℕ) → drop k (sets l (k + at) xs) ≡ sets (drop k l) at xs
+rest-sets l [] k at = refl
+rest-sets l (x ∷ xs) k at = rw (← add-suc k at, rest-sets (set l (k + at) x) xs k (suc at), drop-set-add)
+
+pub part-before : (l xs : List ℕ) (at i w : ℕ) → i + w ≤ at → part (sets l at xs) i w ≡ part l i w
+part-before l xs at i w h =
+    let e : at ≡ i + (at - i) = omega arith in
+    rw (e, rest-sets) (take-sets (drop i l) xs (at - i) w (omega arith))
+
+pub part-after : (l xs : List ℕ) (at i w : ℕ) → at + length xs ≤ i → part (sets l at xs) i w ≡ part l i w
+part-after l xs at i w h = ap (take w) (drop-sets l xs at i h)
+
+pub part-whole : (l xs : List ℕ) (at w : ℕ) → at + length xs ≤ length l → length xs ≡ w → part (sets l at xs) at w ≡ xs
+part-whole l xs at w h e =
+    let k : length (take at l) ≡ at = length-take-le at l (omega arith) in
+    rw (sets-eq, append-assoc, drop-at, take-at)
+
+pub part-inside : (l xs : List ℕ) (at i w : ℕ) → at + length xs ≤ length l → at ≤ i → i + w ≤ at + length xs
+    → part (sets l at xs) i w ≡ part xs (i - at) w
+part-inside l xs at i w h k m =
+    let e : at + (i - at) ≡ i = omega arith in
+    rw e at (sym (part-part (sets l at xs) at (length xs) (i - at) w (omega arith)))
+    ∙ ap (λ s. part s (i - at) w) (part-whole l xs at (length xs) h refl)
+
+-- ---- runs of stores
+
+pub sets-part : (l : List ℕ) (at w : ℕ) → at + w ≤ length l → sets l at (part l at w) ≡ l
+sets-part l at w h =
+    let e = length-part l at w h in
+    rw (sets-eq (part l at w) l at (rw e h), e, ← take-add, take-append-drop)
+
+-- a store before a run may be made after it
+store-before : (l xs : List ℕ) (at i b : ℕ) → at < i → set (sets l i xs) at b ≡ sets (set l at b) i xs
+store-before l [] at i b h = refl
+store-before l (x ∷ xs) at i b h =
+    store-before (set l i x) xs at (suc i) b (omega arith)
+    ∙ ap (λ m. sets m (suc i) xs) (set-comm l i at x b (λ e. omega arith))
+
+pub sets-sets-same : (l xs ys : List ℕ) (at : ℕ) → length xs ≡ length ys → sets (sets l at xs) at ys ≡ sets l at ys
+sets-sets-same l [] [] at e = refl
+sets-sets-same l [] (y ∷ ys) at e = absurd (omega arith)
+sets-sets-same l (x ∷ xs) [] at e = absurd (omega arith)
+sets-sets-same l (x ∷ xs) (y ∷ ys) at e =
+    rw (store-before (set l at x) xs at (suc at) y (omega arith), set-set)
+    (sets-sets-same (set l at y) xs ys (suc at) (omega arith))
+
+pub sets-comm : (l xs ys : List ℕ) (at i : ℕ) → at + length xs ≤ i → sets (sets l at xs) i ys ≡ sets (sets l i ys) at xs
+sets-comm l [] ys at i h = refl
+sets-comm l (x ∷ xs) ys at i h =
+    sets-comm (set l at x) xs ys (suc at) i (omega arith)
+    ∙ ap (λ m. sets m (suc at) xs) (sym (store-before l ys at i x (omega arith)))
