@@ -1,12 +1,12 @@
 -- What the readers' answers say of the rows of the layout, over plain variables.
 use Prim.Native.Nat.{ℕ}
-use mathlib.Core.Path.{_≡_, refl, sym, ap, _∙_}
+use mathlib.Core.Path.{_≡_, refl, sym, _∙_}
 use mathlib.Core.Bool.{Bool, true, false, cond, _&&_, and-true, and-false}
 use mathlib.Core.List.{List, [], _∷_}
 use native.Mathlib.Omega.{arith}
 use lib.Dec.{eqb}
 use lib.ListN.{length, getD}
-use borrow.Author.Tests.{eq-eqb, ne-eqb}
+use borrow.Author.Tests.{ne-eqb}
 use Rattle.field.specs.Kept.{isText, isBlank, isCode}
 use Rattle.field.specs.Kept.{kept as keptAnswer}
 use Rattle.field.specs.Number.{number}
@@ -16,14 +16,14 @@ use Rattle.field.specs.declared.Number.{Number}
 use Rattle.field.specs.declared.Number.the-variants.{Value as Number·Value, Bad}
 use Rattle.layout.specs.Layout.{leastStrike}
 use Rattle.layout.specs.Line.{same, crlf}
-use Rattle.layout.specs.Rule.{Rule, code, kept, text, blank, gotRun, isKind, Kind}
+use Rattle.layout.specs.Rule.{Rule, code, kept, text, gotRun}
 use Rattle.layout.specs.Records.{eventOf}
 use Rattle.layout.specs.declared.Event.the-variants.{Accepted, Executed, Cancelled, Broken, Replaced, Repriced}
 use Rattle.layout.specs.declared.Trade.{Trade}
 use Rattle.line.specs.Groups.{keptGot, keptOn, idOn}
 
 -- a test and its answer
-kept-is : (a : Bool) (b : List ℕ) → keptAnswer a ≡ keptGot (gotRun a b)
+pub kept-is : (a : Bool) (b : List ℕ) → keptAnswer a ≡ keptGot (gotRun a b)
 kept-is true b = refl
 kept-is false b = refl
 

@@ -1,4 +1,11 @@
 pub mod Answers
 pub mod Built
+pub mod Checks
+pub mod Determined
+pub mod Events
+pub mod Fields
+pub mod Puts
 pub mod Readings
 pub mod Steps
+pub mod Forms
+pub mod Writings

@@ -1,19 +1,17 @@
 -- The ways out of reading a piece, each as the promise says it.
 use Prim.Native.Nat.{ℕ, _-_, _≤_}
-use mathlib.Core.Path.{_≡_, refl, sym, ap, _∙_}
-use mathlib.Core.Bool.{Bool, true, false, cond, and-false}
+use mathlib.Core.Path.{_≡_, refl, sym, _∙_}
+use mathlib.Core.Bool.{Bool, true, false}
 use mathlib.Core.List.{List, []}
 use native.Mathlib.Nat.{le-of-eq}
-use native.Mathlib.Omega.{arith}
 use borrow.Author.Tests.{eq-eqb, ne-eqb}
-use lib.Dec.{eqb}
 use lib.ListN.{length, take, drop, length-drop}
 use lib.Seq.{take-all}
 use Rattle.field.specs.Byte.{isOf, all}
 use Rattle.field.specs.declared.Class.the-variants.{Printable}
 use Rattle.refusal.specs.declared.Refusal.the-variants.{NoLine, BadByte}
 use Rattle.layout.specs.Layout.{Fields, breaks, say, readRows}
-use Rattle.layout.specs.Line.{same, crlf, isLine, printable, rowsOf, saidBy, read}
+use Rattle.layout.specs.Line.{same, crlf, rowsOf, saidBy, read}
 use Rattle.layout.specs.declared.Record.{Record}
 use Rattle.line.specs.Groups.{readingOf, readingFrom, noNumbers, refusedReading}
 use Rattle.line.specs.Promises.{Read, blankRecord, saidOf, unusedOf}

@@ -17,7 +17,7 @@ use Rattle.refusal.specs.declared.Refusal.the-variants.{Field}
 use Rattle.layout.specs.Layout.{Row, row, part, breaks, readRows, onGot}
 use Rattle.layout.specs.Line.{rowsOf}
 use Rattle.layout.specs.Records.{numOf}
-use Rattle.layout.specs.Rule.{Rule, number, digits, price, code, kept, blank, Kind, isKind, Value, num, run, Got, got, broken, reads, gotNumber, gotRun}
+use Rattle.layout.specs.Rule.{Rule, number, price, code, kept, blank, Kind, isKind, Value, num, run, Got, got, broken, reads, gotNumber, gotRun}
 use Rattle.line.specs.Groups.{keptGot, keptOn, idOn, idValue, valuesOf, readingOf, readingFrom, refusedReading}
 use Rattle.line.specs.declared.Numbers.{Numbers}
 use Rattle.line.specs.declared.Reading.{Reading}

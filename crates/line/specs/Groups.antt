@@ -4,8 +4,7 @@ use mathlib.Core.Bool.{Bool, true, false, cond, _||_}
 use mathlib.Core.List.{List, [], _∷_}
 use lib.Dec.{eqb}
 use lib.ListN.{getD, take, drop}
-use Rattle.field.specs.Kept.{isBlank, isCode}
-use Rattle.field.specs.Kept.{kept as keptAnswer}
+use Rattle.field.specs.Kept.{isBlank}
 use Rattle.field.specs.Number.{number}
 use Rattle.field.specs.declared.Bytes.{Bytes}
 use Rattle.field.specs.declared.Bytes.the-variants.{Lawful, Unlawful}

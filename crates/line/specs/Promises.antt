@@ -1,9 +1,9 @@
 -- What each public entry of this crate promises: its answer in the paper's numbers and values, and each lent byte.
 use Prim.Native.Nat.{ℕ}
 use mathlib.Core.Path.{_≡_}
-use mathlib.Core.List.{List, [], _∷_}
+use mathlib.Core.List.{List}
 use lib.ListN.{replicate}
-use Rattle.refusal.specs.Answer.{Answer, value, refused, refusedBy}
+use Rattle.refusal.specs.Answer.{Answer, value, refusedBy}
 use Rattle.layout.specs.Clocks.{clock}
 use Rattle.layout.specs.Line.{Said, line, endOfDay, outAfter}
 use Rattle.layout.specs.Line.{read as readLine, write as writeLine}

@@ -1,13 +1,22 @@
-// Reading a piece and writing a record.
+// Reading a piece and writing a record; the value and the form of a strike; the time of day.
 mod build;
+mod event;
+mod lawful;
+mod output;
 mod pick;
 mod piece;
+mod strikes;
+mod times;
 
 use layout::Clock;
 use layout::Record;
 use layout::Strike;
+pub use output::write;
 pub use piece::read;
 use refusal::Refusal;
+pub use strikes::strike_form;
+pub use strikes::strike_value;
+pub use times::clock;
 
 pub enum Outcome {
     EndOfDay,

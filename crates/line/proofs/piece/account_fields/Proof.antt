@@ -1,13 +1,90 @@
 -- `line::piece::account_fields` meets its contract.
+use Prim.Native.Nat.{ℕ}
+use mathlib.Core.List.{List}
+use mathlib.Core.Path.{_≡_}
 use borrow.Author.Needs.{needs}
 use denote.Ref.{now}
 use lib.Dec.{lit<, eqb}
 use lib.ListN.{getD}
 use Rattle.layout.specs.Rule.{kept, text, textOrBlank, digitsOrBlank}
 use Rattle.layout.specs.Layout.{part}
+use Rattle.line.specs.declared.Numbers.{Numbers}
+use Rattle.line.specs.declared.Reading.{Reading}
+use Rattle.line.specs.Groups.{readingFrom}
 use Rattle.line.proofs.Steps.{past, stops, kind-good, kind-bad, kind-on-good, on-bad}
 use Rattle.line.proofs.piece.account_fields.Statement.{statement}
 use Rattle.line.proofs.piece.account_fields.Tie as tie
+
+abbrev piece-7 : tie.After-enum-told → List ℕ
+piece-7 c = now (c .before .before .before .before .before .args .s)
+
+abbrev given-7 : tie.After-enum-told → Numbers
+given-7 c = c .before .before .before .before .before .args .n
+
+past-7 : (c : tie.After-enum-told) (x : Reading) → x ≡ readingFrom 7 (given-7 c) (piece-7 c) → x ≡ readingFrom 6 (given-7 c) (piece-7 c)
+past-7 c x e =
+    let s = piece-7 c in
+    past 6 (given-7 c) s x (lit< tt) (kind-good textOrBlank (part s 16 4) _ (c .before .before .text-or-blank .ensures) (c .enum-told .given .1)) e
+
+abbrev piece-8 : tie.After-enum-told3 → List ℕ
+piece-8 c = piece-7 (c .before .before .before .before)
+
+abbrev given-8 : tie.After-enum-told3 → Numbers
+given-8 c = given-7 (c .before .before .before .before)
+
+past-8 : (c : tie.After-enum-told3) (x : Reading) → x ≡ readingFrom 8 (given-8 c) (piece-8 c) → x ≡ readingFrom 6 (given-8 c) (piece-8 c)
+past-8 c x e =
+    let s = piece-8 c in
+    past-7 (c .before .before .before .before) x
+    (past 7 (given-8 c) s x (lit< tt) (kind-good digitsOrBlank (part s 20 5) _ (c .before .before .digits-or-blank .ensures) (c .enum-told3 .given .1)) e)
+
+abbrev piece-9 : tie.After-enum-told5 → List ℕ
+piece-9 c = piece-8 (c .before .before .before .before)
+
+abbrev given-9 : tie.After-enum-told5 → Numbers
+given-9 c = given-8 (c .before .before .before .before)
+
+past-9 : (c : tie.After-enum-told5) (x : Reading) → x ≡ readingFrom 9 (given-9 c) (piece-9 c) → x ≡ readingFrom 6 (given-9 c) (piece-9 c)
+past-9 c x e =
+    let s = piece-9 c in
+    past-8 (c .before .before .before .before) x
+    (past 8 (given-9 c) s x (lit< tt) (kind-good digitsOrBlank (part s 25 5) _ (c .before .before .digits-or-blank2 .ensures) (c .enum-told5 .given .1)) e)
+
+abbrev piece-10 : tie.After-enum-told7 → List ℕ
+piece-10 c = piece-9 (c .before .before .before .before)
+
+abbrev given-10 : tie.After-enum-told7 → Numbers
+given-10 c = given-9 (c .before .before .before .before)
+
+past-10 : (c : tie.After-enum-told7) (x : Reading) → x ≡ readingFrom 10 (given-10 c) (piece-10 c) → x ≡ readingFrom 6 (given-10 c) (piece-10 c)
+past-10 c x e =
+    let s = piece-10 c in
+    past-9 (c .before .before .before .before) x
+    (past 9 (given-10 c) s x (lit< tt) (kind-good text (part s 30 6) _ (c .before .before .text .ensures) (c .enum-told7 .given .1)) e)
+
+abbrev piece-11 : tie.After-enum-told9 → List ℕ
+piece-11 c = piece-10 (c .before .before .before .before)
+
+abbrev given-11 : tie.After-enum-told9 → Numbers
+given-11 c = given-10 (c .before .before .before .before)
+
+past-11 : (c : tie.After-enum-told9) (x : Reading) → x ≡ readingFrom 11 (given-11 c) (piece-11 c) → x ≡ readingFrom 6 (given-11 c) (piece-11 c)
+past-11 c x e =
+    let s = piece-11 c in
+    past-10 (c .before .before .before .before) x
+    (past 10 (given-11 c) s x (lit< tt) (kind-good text (part s 36 20) _ (c .before .before .text2 .ensures) (c .enum-told9 .given .1)) e)
+
+abbrev piece-12 : tie.After-enum-told11 → List ℕ
+piece-12 c = piece-11 (c .before .before .before .before .before)
+
+abbrev given-12 : tie.After-enum-told11 → Numbers
+given-12 c = given-11 (c .before .before .before .before .before)
+
+past-12 : (c : tie.After-enum-told11) (x : Reading) → x ≡ readingFrom 12 (given-12 c) (piece-12 c) → x ≡ readingFrom 6 (given-12 c) (piece-12 c)
+past-12 c x e =
+    let s = piece-12 c in
+    past-11 (c .before .before .before .before .before) x
+    (past 11 (given-12 c) s x (lit< tt) (kind-on-good (eqb (getD s 8 0) 85) text (part s 56 20) _ (c .before .before .replaced .ensures) (c .enum-told11 .given .1)) e)
 
 sub-text-or-blank : tie.Need-sub-text-or-blank
 sub-text-or-blank c = search needs
@@ -59,10 +136,9 @@ refused-requires-2 c κs = search needs
 
 returns-2 : tie.Need-returns-2
 returns-2 c =
-    let s = now (c .before .before .before .before .before .before .before .before .before .before .args .s) in
-    let n = c .before .before .before .before .before .before .before .before .before .before .args .n in
-    past 6 n s _ (lit< tt) (kind-good textOrBlank (part s 16 4) _ (c .before .before .before .before .before .before .before .text-or-blank .ensures) (c .before .before .before .before .before .enum-told .given .1))
-    (stops 7 n s _ (lit< tt) (kind-bad digitsOrBlank (part s 20 5) _ (c .before .before .before .digits-or-blank .ensures) (c .before .enum-told4 .given .1)) (c .refused2 .ensures))
+    let s = piece-7 (c .before .before .before .before .before) in
+    let n = given-7 (c .before .before .before .before .before) in
+    past-7 (c .before .before .before .before .before) _ (stops 7 n s _ (lit< tt) (kind-bad digitsOrBlank (part s 20 5) _ (c .before .before .before .digits-or-blank .ensures) (c .before .enum-told4 .given .1)) (c .refused2 .ensures))
 
 sub-digits-or-blank-2 : tie.Need-sub-digits-or-blank-2
 sub-digits-or-blank-2 c = search needs
@@ -87,11 +163,9 @@ refused-requires-3 c κs = search needs
 
 returns-3 : tie.Need-returns-3
 returns-3 c =
-    let s = now (c .before .before .before .before .before .before .before .before .before .before .before .before .before .before .args .s) in
-    let n = c .before .before .before .before .before .before .before .before .before .before .before .before .before .before .args .n in
-    past 6 n s _ (lit< tt) (kind-good textOrBlank (part s 16 4) _ (c .before .before .before .before .before .before .before .before .before .before .before .text-or-blank .ensures) (c .before .before .before .before .before .before .before .before .before .enum-told .given .1))
-    (past 7 n s _ (lit< tt) (kind-good digitsOrBlank (part s 20 5) _ (c .before .before .before .before .before .before .before .digits-or-blank .ensures) (c .before .before .before .before .before .enum-told3 .given .1))
-    (stops 8 n s _ (lit< tt) (kind-bad digitsOrBlank (part s 25 5) _ (c .before .before .before .digits-or-blank2 .ensures) (c .before .enum-told6 .given .1)) (c .refused3 .ensures)))
+    let s = piece-8 (c .before .before .before .before .before) in
+    let n = given-8 (c .before .before .before .before .before) in
+    past-8 (c .before .before .before .before .before) _ (stops 8 n s _ (lit< tt) (kind-bad digitsOrBlank (part s 25 5) _ (c .before .before .before .digits-or-blank2 .ensures) (c .before .enum-told6 .given .1)) (c .refused3 .ensures))
 
 sub-text : tie.Need-sub-text
 sub-text c = search needs
@@ -116,12 +190,9 @@ refused-requires-4 c κs = search needs
 
 returns-4 : tie.Need-returns-4
 returns-4 c =
-    let s = now (c .before .before .before .before .before .before .before .before .before .before .before .before .before .before .before .before .before .before .args .s) in
-    let n = c .before .before .before .before .before .before .before .before .before .before .before .before .before .before .before .before .before .before .args .n in
-    past 6 n s _ (lit< tt) (kind-good textOrBlank (part s 16 4) _ (c .before .before .before .before .before .before .before .before .before .before .before .before .before .before .before .text-or-blank .ensures) (c .before .before .before .before .before .before .before .before .before .before .before .before .before .enum-told .given .1))
-    (past 7 n s _ (lit< tt) (kind-good digitsOrBlank (part s 20 5) _ (c .before .before .before .before .before .before .before .before .before .before .before .digits-or-blank .ensures) (c .before .before .before .before .before .before .before .before .before .enum-told3 .given .1))
-    (past 8 n s _ (lit< tt) (kind-good digitsOrBlank (part s 25 5) _ (c .before .before .before .before .before .before .before .digits-or-blank2 .ensures) (c .before .before .before .before .before .enum-told5 .given .1))
-    (stops 9 n s _ (lit< tt) (kind-bad text (part s 30 6) _ (c .before .before .before .text .ensures) (c .before .enum-told8 .given .1)) (c .refused4 .ensures))))
+    let s = piece-9 (c .before .before .before .before .before) in
+    let n = given-9 (c .before .before .before .before .before) in
+    past-9 (c .before .before .before .before .before) _ (stops 9 n s _ (lit< tt) (kind-bad text (part s 30 6) _ (c .before .before .before .text .ensures) (c .before .enum-told8 .given .1)) (c .refused4 .ensures))
 
 sub-text-2 : tie.Need-sub-text-2
 sub-text-2 c = search needs
@@ -146,13 +217,9 @@ refused-requires-5 c κs = search needs
 
 returns-5 : tie.Need-returns-5
 returns-5 c =
-    let s = now (c .before .before .before .before .before .before .before .before .before .before .before .before .before .before .before .before .before .before .before .before .before .before .args .s) in
-    let n = c .before .before .before .before .before .before .before .before .before .before .before .before .before .before .before .before .before .before .before .before .before .before .args .n in
-    past 6 n s _ (lit< tt) (kind-good textOrBlank (part s 16 4) _ (c .before .before .before .before .before .before .before .before .before .before .before .before .before .before .before .before .before .before .before .text-or-blank .ensures) (c .before .before .before .before .before .before .before .before .before .before .before .before .before .before .before .before .before .enum-told .given .1))
-    (past 7 n s _ (lit< tt) (kind-good digitsOrBlank (part s 20 5) _ (c .before .before .before .before .before .before .before .before .before .before .before .before .before .before .before .digits-or-blank .ensures) (c .before .before .before .before .before .before .before .before .before .before .before .before .before .enum-told3 .given .1))
-    (past 8 n s _ (lit< tt) (kind-good digitsOrBlank (part s 25 5) _ (c .before .before .before .before .before .before .before .before .before .before .before .digits-or-blank2 .ensures) (c .before .before .before .before .before .before .before .before .before .enum-told5 .given .1))
-    (past 9 n s _ (lit< tt) (kind-good text (part s 30 6) _ (c .before .before .before .before .before .before .before .text .ensures) (c .before .before .before .before .before .enum-told7 .given .1))
-    (stops 10 n s _ (lit< tt) (kind-bad text (part s 36 20) _ (c .before .before .before .text2 .ensures) (c .before .enum-told10 .given .1)) (c .refused5 .ensures)))))
+    let s = piece-10 (c .before .before .before .before .before) in
+    let n = given-10 (c .before .before .before .before .before) in
+    past-10 (c .before .before .before .before .before) _ (stops 10 n s _ (lit< tt) (kind-bad text (part s 36 20) _ (c .before .before .before .text2 .ensures) (c .before .enum-told10 .given .1)) (c .refused5 .ensures))
 
 sub-replaced : tie.Need-sub-replaced
 sub-replaced c = search needs
@@ -180,29 +247,15 @@ refused-requires-6 c κs = search needs
 
 returns-6 : tie.Need-returns-6
 returns-6 c =
-    let s = now (c .before .before .before .before .before .before .before .before .before .before .before .before .before .before .before .before .before .before .before .before .before .before .before .before .before .before .before .args .s) in
-    let n = c .before .before .before .before .before .before .before .before .before .before .before .before .before .before .before .before .before .before .before .before .before .before .before .before .before .before .before .args .n in
-    past 6 n s _ (lit< tt) (kind-good textOrBlank (part s 16 4) _ (c .before .before .before .before .before .before .before .before .before .before .before .before .before .before .before .before .before .before .before .before .before .before .before .before .text-or-blank .ensures) (c .before .before .before .before .before .before .before .before .before .before .before .before .before .before .before .before .before .before .before .before .before .before .enum-told .given .1))
-    (past 7 n s _ (lit< tt) (kind-good digitsOrBlank (part s 20 5) _ (c .before .before .before .before .before .before .before .before .before .before .before .before .before .before .before .before .before .before .before .before .digits-or-blank .ensures) (c .before .before .before .before .before .before .before .before .before .before .before .before .before .before .before .before .before .before .enum-told3 .given .1))
-    (past 8 n s _ (lit< tt) (kind-good digitsOrBlank (part s 25 5) _ (c .before .before .before .before .before .before .before .before .before .before .before .before .before .before .before .before .digits-or-blank2 .ensures) (c .before .before .before .before .before .before .before .before .before .before .before .before .before .before .enum-told5 .given .1))
-    (past 9 n s _ (lit< tt) (kind-good text (part s 30 6) _ (c .before .before .before .before .before .before .before .before .before .before .before .before .text .ensures) (c .before .before .before .before .before .before .before .before .before .before .enum-told7 .given .1))
-    (past 10 n s _ (lit< tt) (kind-good text (part s 36 20) _ (c .before .before .before .before .before .before .before .before .text2 .ensures) (c .before .before .before .before .before .before .enum-told9 .given .1))
-    (stops 11 n s _ (lit< tt) (on-bad (eqb (getD s 8 0) 85) (kept text) (part s 56 20) _ (c .before .before .before .replaced .ensures) (c .before .enum-told12 .given .1)) (c .refused6 .ensures))))))
+    let s = piece-11 (c .before .before .before .before .before .before) in
+    let n = given-11 (c .before .before .before .before .before .before) in
+    past-11 (c .before .before .before .before .before .before) _ (stops 11 n s _ (lit< tt) (on-bad (eqb (getD s 8 0) 85) (kept text) (part s 56 20) _ (c .before .before .before .replaced .ensures) (c .before .enum-told12 .given .1)) (c .refused6 .ensures))
 
 order-fields-requires : tie.Need-order-fields-requires
 order-fields-requires c κs = search needs
 
 returns-7 : tie.Need-returns-7
-returns-7 c =
-    let s = now (c .before .before .before .before .before .before .before .before .before .before .before .before .before .before .before .before .before .before .before .before .before .before .before .before .before .before .before .args .s) in
-    let n = c .before .before .before .before .before .before .before .before .before .before .before .before .before .before .before .before .before .before .before .before .before .before .before .before .before .before .before .args .n in
-    past 6 n s _ (lit< tt) (kind-good textOrBlank (part s 16 4) _ (c .before .before .before .before .before .before .before .before .before .before .before .before .before .before .before .before .before .before .before .before .before .before .before .before .text-or-blank .ensures) (c .before .before .before .before .before .before .before .before .before .before .before .before .before .before .before .before .before .before .before .before .before .before .enum-told .given .1))
-    (past 7 n s _ (lit< tt) (kind-good digitsOrBlank (part s 20 5) _ (c .before .before .before .before .before .before .before .before .before .before .before .before .before .before .before .before .before .before .before .before .digits-or-blank .ensures) (c .before .before .before .before .before .before .before .before .before .before .before .before .before .before .before .before .before .before .enum-told3 .given .1))
-    (past 8 n s _ (lit< tt) (kind-good digitsOrBlank (part s 25 5) _ (c .before .before .before .before .before .before .before .before .before .before .before .before .before .before .before .before .digits-or-blank2 .ensures) (c .before .before .before .before .before .before .before .before .before .before .before .before .before .before .enum-told5 .given .1))
-    (past 9 n s _ (lit< tt) (kind-good text (part s 30 6) _ (c .before .before .before .before .before .before .before .before .before .before .before .before .text .ensures) (c .before .before .before .before .before .before .before .before .before .before .enum-told7 .given .1))
-    (past 10 n s _ (lit< tt) (kind-good text (part s 36 20) _ (c .before .before .before .before .before .before .before .before .text2 .ensures) (c .before .before .before .before .before .before .enum-told9 .given .1))
-    (past 11 n s _ (lit< tt) (kind-on-good (eqb (getD s 8 0) 85) text (part s 56 20) _ (c .before .before .before .replaced .ensures) (c .before .enum-told11 .given .1))
-    (c .order-fields .ensures))))))
+returns-7 c = past-12 (c .before) _ (c .order-fields .ensures)
 
 pub account-fields-spec : {M : Type 1} → statement M
 account-fields-spec =

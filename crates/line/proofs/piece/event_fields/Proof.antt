@@ -1,17 +1,92 @@
 -- `line::piece::event_fields` meets its contract.
+use Prim.Native.Nat.{ℕ}
 use mathlib.Core.Bool.{Bool}
-use mathlib.Core.Path.{_∙_, ap}
+use mathlib.Core.Path.{_∙_, ap, _≡_}
+use mathlib.Core.List.{List}
 use borrow.Author.Needs.{needs}
 use denote.Ref.{now}
 use lib.Dec.{lit<}
 use lib.ListN.{getD}
-use Rattle.line.specs.Groups.{isTrade, keptOn, noNumbers}
+use Rattle.line.specs.Groups.{readingFrom, noNumbers, isTrade, keptOn}
 use Rattle.layout.specs.Rule.{number, code, text}
 use Rattle.layout.specs.Layout.{part, types, capacities, positions, liquidities}
 use Rattle.field.specs.Number.{number as readNumber}
+use Rattle.line.specs.declared.Numbers.{Numbers}
+use Rattle.line.specs.declared.Reading.{Reading}
 use Rattle.line.proofs.Steps.{withTimestamp, past, stops, kind-good, kind-bad, code-good, code-bad, value-good, value-bad, code-on-good, on-bad}
 use Rattle.line.proofs.piece.event_fields.Statement.{statement}
 use Rattle.line.proofs.piece.event_fields.Tie as tie
+
+abbrev piece-1 : tie.After-known-told → List ℕ
+piece-1 c = now (c .before .before .before .before .before .before .args .s)
+
+abbrev numbers-1 : tie.After-known-told → Numbers
+numbers-1 c = withTimestamp (c .before .timestamp .given .0 .0)
+
+past-1 : (c : tie.After-known-told) (x : Reading) → x ≡ readingFrom 1 (numbers-1 c) (piece-1 c) → x ≡ readingFrom 0 noNumbers (piece-1 c)
+past-1 c x e =
+    let s = piece-1 c in
+    past 0 (numbers-1 c) s x (lit< tt) (value-good (readNumber 0 86399999 (part s 0 8)) _ _ (c .before .before .before .number .ensures) (c .before .timestamp .given .1)) e
+
+abbrev piece-2 : tie.After-enum-told2 → List ℕ
+piece-2 c = piece-1 (c .before .before .before .before .before)
+
+abbrev numbers-2 : tie.After-enum-told2 → Numbers
+numbers-2 c = withTimestamp (c .before .before .before .before .before .before .timestamp .given .0 .0)
+
+past-2 : (c : tie.After-enum-told2) (x : Reading) → x ≡ readingFrom 2 (numbers-2 c) (piece-2 c) → x ≡ readingFrom 0 noNumbers (piece-2 c)
+past-2 c x e =
+    let s = piece-2 c in
+    past-1 (c .before .before .before .before .before) x
+    (past 1 (numbers-2 c) s x (lit< tt) (code-good types (part s 8 1) _ (c .before .before .code .ensures) (c .enum-told2 .given .1)) e)
+
+abbrev piece-3 : tie.After-enum-told4 → List ℕ
+piece-3 c = piece-2 (c .before .before .before .before)
+
+abbrev numbers-3 : tie.After-enum-told4 → Numbers
+numbers-3 c = withTimestamp (c .before .before .before .before .before .before .before .before .before .before .timestamp .given .0 .0)
+
+past-3 : (c : tie.After-enum-told4) (x : Reading) → x ≡ readingFrom 3 (numbers-3 c) (piece-3 c) → x ≡ readingFrom 0 noNumbers (piece-3 c)
+past-3 c x e =
+    let s = piece-3 c in
+    past-2 (c .before .before .before .before) x
+    (past 2 (numbers-3 c) s x (lit< tt) (kind-good text (part s 9 4) _ (c .before .before .text .ensures) (c .enum-told4 .given .1)) e)
+
+abbrev piece-4 : tie.After-enum-told6 → List ℕ
+piece-4 c = piece-3 (c .before .before .before .before .before)
+
+abbrev numbers-4 : tie.After-enum-told6 → Numbers
+numbers-4 c = withTimestamp (c .before .before .before .before .before .before .before .before .before .before .before .before .before .before .before .timestamp .given .0 .0)
+
+past-4 : (c : tie.After-enum-told6) (x : Reading) → x ≡ readingFrom 4 (numbers-4 c) (piece-4 c) → x ≡ readingFrom 0 noNumbers (piece-4 c)
+past-4 c x e =
+    let s = piece-4 c in
+    past-3 (c .before .before .before .before .before) x
+    (past 3 (numbers-4 c) s x (lit< tt) (code-good capacities (part s 13 1) _ (c .before .before .code2 .ensures) (c .enum-told6 .given .1)) e)
+
+abbrev piece-5 : tie.After-enum-told8 → List ℕ
+piece-5 c = piece-4 (c .before .before .before .before .before)
+
+abbrev numbers-5 : tie.After-enum-told8 → Numbers
+numbers-5 c = withTimestamp (c .before .before .before .before .before .before .before .before .before .before .before .before .before .before .before .before .before .before .before .before .timestamp .given .0 .0)
+
+past-5 : (c : tie.After-enum-told8) (x : Reading) → x ≡ readingFrom 5 (numbers-5 c) (piece-5 c) → x ≡ readingFrom 0 noNumbers (piece-5 c)
+past-5 c x e =
+    let s = piece-5 c in
+    past-4 (c .before .before .before .before .before) x
+    (past 4 (numbers-5 c) s x (lit< tt) (code-good positions (part s 14 1) _ (c .before .before .code3 .ensures) (c .enum-told8 .given .1)) e)
+
+abbrev piece-6 : tie.After-enum-told10 → List ℕ
+piece-6 c = piece-5 (c .before .before .before .before .before .before)
+
+abbrev numbers-6 : tie.After-enum-told10 → Numbers
+numbers-6 c = withTimestamp (c .before .before .before .before .before .before .before .before .before .before .before .before .before .before .before .before .before .before .before .before .before .before .before .before .before .before .timestamp .given .0 .0)
+
+past-6 : (c : tie.After-enum-told10) (x : Reading) → x ≡ readingFrom 6 (numbers-6 c) (piece-6 c) → x ≡ readingFrom 0 noNumbers (piece-6 c)
+past-6 c x e =
+    let s = piece-6 c in
+    past-5 (c .before .before .before .before .before .before) x
+    (past 5 (numbers-6 c) s x (lit< tt) (code-on-good (isTrade (getD s 8 0)) liquidities (part s 15 1) _ (c .before .before .liquidity .ensures ∙ ap (λ (t : Bool). keptOn t (code liquidities) (part s 15 1)) (c .before .before .before .is-trade .ensures)) (c .enum-told10 .given .1)) e)
 
 sub-number : tie.Need-sub-number
 sub-number c = search needs
@@ -66,10 +141,9 @@ refused-requires-2 c κs = search needs
 
 returns-2 : tie.Need-returns-2
 returns-2 c =
-    let s = now (c .before .before .before .before .before .before .before .before .before .before .before .before .args .s) in
-    let n = withTimestamp (c .before .before .before .before .before .before .before .timestamp .given .0 .0) in
-    past 0 n s _ (lit< tt) (value-good (readNumber 0 86399999 (part s 0 8)) _ _ (c .before .before .before .before .before .before .before .before .before .number .ensures) (c .before .before .before .before .before .before .before .timestamp .given .1))
-    (stops 1 n s _ (lit< tt) (code-bad types (part s 8 1) _ (c .before .before .before .code .ensures) (c .before .enum-told3 .given .1)) (c .refused2 .ensures))
+    let s = piece-1 (c .before .before .before .before .before .before) in
+    let n = numbers-1 (c .before .before .before .before .before .before) in
+    past-1 (c .before .before .before .before .before .before) _ (stops 1 n s _ (lit< tt) (code-bad types (part s 8 1) _ (c .before .before .before .code .ensures) (c .before .enum-told3 .given .1)) (c .refused2 .ensures))
 
 sub-text : tie.Need-sub-text
 sub-text c = search needs
@@ -94,11 +168,9 @@ refused-requires-3 c κs = search needs
 
 returns-3 : tie.Need-returns-3
 returns-3 c =
-    let s = now (c .before .before .before .before .before .before .before .before .before .before .before .before .before .before .before .before .args .s) in
-    let n = withTimestamp (c .before .before .before .before .before .before .before .before .before .before .before .timestamp .given .0 .0) in
-    past 0 n s _ (lit< tt) (value-good (readNumber 0 86399999 (part s 0 8)) _ _ (c .before .before .before .before .before .before .before .before .before .before .before .before .before .number .ensures) (c .before .before .before .before .before .before .before .before .before .before .before .timestamp .given .1))
-    (past 1 n s _ (lit< tt) (code-good types (part s 8 1) _ (c .before .before .before .before .before .before .before .code .ensures) (c .before .before .before .before .before .enum-told2 .given .1))
-    (stops 2 n s _ (lit< tt) (kind-bad text (part s 9 4) _ (c .before .before .before .text .ensures) (c .before .enum-told5 .given .1)) (c .refused3 .ensures)))
+    let s = piece-2 (c .before .before .before .before .before) in
+    let n = numbers-2 (c .before .before .before .before .before) in
+    past-2 (c .before .before .before .before .before) _ (stops 2 n s _ (lit< tt) (kind-bad text (part s 9 4) _ (c .before .before .before .text .ensures) (c .before .enum-told5 .given .1)) (c .refused3 .ensures))
 
 sub-code-2 : tie.Need-sub-code-2
 sub-code-2 c = search needs
@@ -126,12 +198,9 @@ refused-requires-4 c κs = search needs
 
 returns-4 : tie.Need-returns-4
 returns-4 c =
-    let s = now (c .before .before .before .before .before .before .before .before .before .before .before .before .before .before .before .before .before .before .before .before .before .args .s) in
-    let n = withTimestamp (c .before .before .before .before .before .before .before .before .before .before .before .before .before .before .before .before .timestamp .given .0 .0) in
-    past 0 n s _ (lit< tt) (value-good (readNumber 0 86399999 (part s 0 8)) _ _ (c .before .before .before .before .before .before .before .before .before .before .before .before .before .before .before .before .before .before .number .ensures) (c .before .before .before .before .before .before .before .before .before .before .before .before .before .before .before .before .timestamp .given .1))
-    (past 1 n s _ (lit< tt) (code-good types (part s 8 1) _ (c .before .before .before .before .before .before .before .before .before .before .before .before .code .ensures) (c .before .before .before .before .before .before .before .before .before .before .enum-told2 .given .1))
-    (past 2 n s _ (lit< tt) (kind-good text (part s 9 4) _ (c .before .before .before .before .before .before .before .before .text .ensures) (c .before .before .before .before .before .before .enum-told4 .given .1))
-    (stops 3 n s _ (lit< tt) (code-bad capacities (part s 13 1) _ (c .before .before .before .code2 .ensures) (c .before .enum-told7 .given .1)) (c .refused4 .ensures))))
+    let s = piece-3 (c .before .before .before .before .before .before) in
+    let n = numbers-3 (c .before .before .before .before .before .before) in
+    past-3 (c .before .before .before .before .before .before) _ (stops 3 n s _ (lit< tt) (code-bad capacities (part s 13 1) _ (c .before .before .before .code2 .ensures) (c .before .enum-told7 .given .1)) (c .refused4 .ensures))
 
 sub-code-3 : tie.Need-sub-code-3
 sub-code-3 c = search needs
@@ -159,13 +228,9 @@ refused-requires-5 c κs = search needs
 
 returns-5 : tie.Need-returns-5
 returns-5 c =
-    let s = now (c .before .before .before .before .before .before .before .before .before .before .before .before .before .before .before .before .before .before .before .before .before .before .before .before .before .before .args .s) in
-    let n = withTimestamp (c .before .before .before .before .before .before .before .before .before .before .before .before .before .before .before .before .before .before .before .before .before .timestamp .given .0 .0) in
-    past 0 n s _ (lit< tt) (value-good (readNumber 0 86399999 (part s 0 8)) _ _ (c .before .before .before .before .before .before .before .before .before .before .before .before .before .before .before .before .before .before .before .before .before .before .before .number .ensures) (c .before .before .before .before .before .before .before .before .before .before .before .before .before .before .before .before .before .before .before .before .before .timestamp .given .1))
-    (past 1 n s _ (lit< tt) (code-good types (part s 8 1) _ (c .before .before .before .before .before .before .before .before .before .before .before .before .before .before .before .before .before .code .ensures) (c .before .before .before .before .before .before .before .before .before .before .before .before .before .before .before .enum-told2 .given .1))
-    (past 2 n s _ (lit< tt) (kind-good text (part s 9 4) _ (c .before .before .before .before .before .before .before .before .before .before .before .before .before .text .ensures) (c .before .before .before .before .before .before .before .before .before .before .before .enum-told4 .given .1))
-    (past 3 n s _ (lit< tt) (code-good capacities (part s 13 1) _ (c .before .before .before .before .before .before .before .before .code2 .ensures) (c .before .before .before .before .before .before .enum-told6 .given .1))
-    (stops 4 n s _ (lit< tt) (code-bad positions (part s 14 1) _ (c .before .before .before .code3 .ensures) (c .before .enum-told9 .given .1)) (c .refused5 .ensures)))))
+    let s = piece-4 (c .before .before .before .before .before .before) in
+    let n = numbers-4 (c .before .before .before .before .before .before) in
+    past-4 (c .before .before .before .before .before .before) _ (stops 4 n s _ (lit< tt) (code-bad positions (part s 14 1) _ (c .before .before .before .code3 .ensures) (c .before .enum-told9 .given .1)) (c .refused5 .ensures))
 
 sub-liquidity : tie.Need-sub-liquidity
 sub-liquidity c = search needs
@@ -196,29 +261,15 @@ refused-requires-6 c κs = search needs
 
 returns-6 : tie.Need-returns-6
 returns-6 c =
-    let s = now (c .before .before .before .before .before .before .before .before .before .before .before .before .before .before .before .before .before .before .before .before .before .before .before .before .before .before .before .before .before .before .before .before .args .s) in
-    let n = withTimestamp (c .before .before .before .before .before .before .before .before .before .before .before .before .before .before .before .before .before .before .before .before .before .before .before .before .before .before .before .timestamp .given .0 .0) in
-    past 0 n s _ (lit< tt) (value-good (readNumber 0 86399999 (part s 0 8)) _ _ (c .before .before .before .before .before .before .before .before .before .before .before .before .before .before .before .before .before .before .before .before .before .before .before .before .before .before .before .before .before .number .ensures) (c .before .before .before .before .before .before .before .before .before .before .before .before .before .before .before .before .before .before .before .before .before .before .before .before .before .before .before .timestamp .given .1))
-    (past 1 n s _ (lit< tt) (code-good types (part s 8 1) _ (c .before .before .before .before .before .before .before .before .before .before .before .before .before .before .before .before .before .before .before .before .before .before .before .code .ensures) (c .before .before .before .before .before .before .before .before .before .before .before .before .before .before .before .before .before .before .before .before .before .enum-told2 .given .1))
-    (past 2 n s _ (lit< tt) (kind-good text (part s 9 4) _ (c .before .before .before .before .before .before .before .before .before .before .before .before .before .before .before .before .before .before .before .text .ensures) (c .before .before .before .before .before .before .before .before .before .before .before .before .before .before .before .before .before .enum-told4 .given .1))
-    (past 3 n s _ (lit< tt) (code-good capacities (part s 13 1) _ (c .before .before .before .before .before .before .before .before .before .before .before .before .before .before .code2 .ensures) (c .before .before .before .before .before .before .before .before .before .before .before .before .enum-told6 .given .1))
-    (past 4 n s _ (lit< tt) (code-good positions (part s 14 1) _ (c .before .before .before .before .before .before .before .before .before .code3 .ensures) (c .before .before .before .before .before .before .before .enum-told8 .given .1))
-    (stops 5 n s _ (lit< tt) (on-bad (isTrade (getD s 8 0)) (code liquidities) (part s 15 1) _ (c .before .before .before .liquidity .ensures ∙ ap (λ (t : Bool). keptOn t (code liquidities) (part s 15 1)) (c .before .before .before .before .is-trade .ensures)) (c .before .enum-told11 .given .1)) (c .refused6 .ensures))))))
+    let s = piece-5 (c .before .before .before .before .before .before .before) in
+    let n = numbers-5 (c .before .before .before .before .before .before .before) in
+    past-5 (c .before .before .before .before .before .before .before) _ (stops 5 n s _ (lit< tt) (on-bad (isTrade (getD s 8 0)) (code liquidities) (part s 15 1) _ (c .before .before .before .liquidity .ensures ∙ ap (λ (t : Bool). keptOn t (code liquidities) (part s 15 1)) (c .before .before .before .before .is-trade .ensures)) (c .before .enum-told11 .given .1)) (c .refused6 .ensures))
 
 account-fields-requires : tie.Need-account-fields-requires
 account-fields-requires c κs = search needs
 
 returns-7 : tie.Need-returns-7
-returns-7 c =
-    let s = now (c .before .before .before .before .before .before .before .before .before .before .before .before .before .before .before .before .before .before .before .before .before .before .before .before .before .before .before .before .before .before .before .before .args .s) in
-    let n = withTimestamp (c .before .before .before .before .before .before .before .before .before .before .before .before .before .before .before .before .before .before .before .before .before .before .before .before .before .before .before .timestamp .given .0 .0) in
-    past 0 n s _ (lit< tt) (value-good (readNumber 0 86399999 (part s 0 8)) _ _ (c .before .before .before .before .before .before .before .before .before .before .before .before .before .before .before .before .before .before .before .before .before .before .before .before .before .before .before .before .before .number .ensures) (c .before .before .before .before .before .before .before .before .before .before .before .before .before .before .before .before .before .before .before .before .before .before .before .before .before .before .before .timestamp .given .1))
-    (past 1 n s _ (lit< tt) (code-good types (part s 8 1) _ (c .before .before .before .before .before .before .before .before .before .before .before .before .before .before .before .before .before .before .before .before .before .before .before .code .ensures) (c .before .before .before .before .before .before .before .before .before .before .before .before .before .before .before .before .before .before .before .before .before .enum-told2 .given .1))
-    (past 2 n s _ (lit< tt) (kind-good text (part s 9 4) _ (c .before .before .before .before .before .before .before .before .before .before .before .before .before .before .before .before .before .before .before .text .ensures) (c .before .before .before .before .before .before .before .before .before .before .before .before .before .before .before .before .before .enum-told4 .given .1))
-    (past 3 n s _ (lit< tt) (code-good capacities (part s 13 1) _ (c .before .before .before .before .before .before .before .before .before .before .before .before .before .before .code2 .ensures) (c .before .before .before .before .before .before .before .before .before .before .before .before .enum-told6 .given .1))
-    (past 4 n s _ (lit< tt) (code-good positions (part s 14 1) _ (c .before .before .before .before .before .before .before .before .before .code3 .ensures) (c .before .before .before .before .before .before .before .enum-told8 .given .1))
-    (past 5 n s _ (lit< tt) (code-on-good (isTrade (getD s 8 0)) liquidities (part s 15 1) _ (c .before .before .before .liquidity .ensures ∙ ap (λ (t : Bool). keptOn t (code liquidities) (part s 15 1)) (c .before .before .before .before .is-trade .ensures)) (c .before .enum-told10 .given .1))
-    (c .account-fields .ensures))))))
+returns-7 c = past-6 (c .before) _ (c .account-fields .ensures)
 
 pub event-fields-spec : {M : Type 1} → statement M
 event-fields-spec =

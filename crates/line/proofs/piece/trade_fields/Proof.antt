@@ -1,16 +1,49 @@
 -- `line::piece::trade_fields` meets its contract.
+use Prim.Native.Nat.{ℕ}
 use mathlib.Core.Bool.{Bool}
-use mathlib.Core.Path.{_∙_, ap}
+use mathlib.Core.Path.{_∙_, ap, _≡_}
+use mathlib.Core.List.{List}
 use borrow.Author.Needs.{needs}
 use denote.Ref.{now}
 use lib.Dec.{lit<}
 use lib.ListN.{getD}
-use Rattle.line.specs.Groups.{isTrade, idOn}
+use Rattle.line.specs.Groups.{readingFrom, isTrade, idOn}
 use Rattle.layout.specs.Layout.{part}
+use Rattle.line.specs.declared.Numbers.{Numbers}
+use Rattle.line.specs.declared.Reading.{Reading}
 use Rattle.line.proofs.Built.{all-read}
 use Rattle.line.proofs.Steps.{withIds, past, stops, id-good, id-bad, id-number}
 use Rattle.line.proofs.piece.trade_fields.Statement.{statement}
 use Rattle.line.proofs.piece.trade_fields.Tie as tie
+
+abbrev piece-23 : tie.After-known-told → List ℕ
+piece-23 c = now (c .before .before .before .before .before .before .before .before .args .s)
+
+abbrev given-23 : tie.After-known-told → Numbers
+given-23 c = c .before .before .before .before .before .before .before .before .args .n
+
+abbrev numbers-23 : tie.After-known-told → Numbers
+numbers-23 c = withIds (given-23 c) (c .before .match-id .given .0 .0) (given-23 c .«cross_id»)
+
+past-23 : (c : tie.After-known-told) (x : Reading) → x ≡ readingFrom 23 (numbers-23 c) (piece-23 c) → x ≡ readingFrom 22 (given-23 c) (piece-23 c)
+past-23 c x e =
+    let s = piece-23 c in
+    past 22 (numbers-23 c) s x (lit< tt) (id-good (isTrade (getD s 8 0)) (part s 120 9) _ _ (c .before .before .before .id .ensures ∙ ap (λ (t : Bool). idOn t (part s 120 9)) (c .before .before .before .before .before .is-trade .ensures)) (c .before .match-id .given .1)) e
+
+abbrev piece-24 : tie.After-known-told2 → List ℕ
+piece-24 c = piece-23 (c .before .before .before .before .before)
+
+abbrev given-24 : tie.After-known-told2 → Numbers
+given-24 c = given-23 (c .before .before .before .before .before)
+
+abbrev numbers-24 : tie.After-known-told2 → Numbers
+numbers-24 c = withIds (given-24 c) (c .before .before .before .before .before .before .match-id .given .0 .0) (c .before .cross-id .given .0 .0)
+
+past-24 : (c : tie.After-known-told2) (x : Reading) → x ≡ readingFrom 24 (numbers-24 c) (piece-24 c) → x ≡ readingFrom 22 (given-24 c) (piece-24 c)
+past-24 c x e =
+    let s = piece-24 c in
+    past-23 (c .before .before .before .before .before) x
+    (past 23 (numbers-24 c) s x (lit< tt) (id-good (isTrade (getD s 8 0)) (part s 129 9) _ _ (c .before .before .before .id2 .ensures ∙ ap (λ (t : Bool). idOn t (part s 129 9)) (c .before .before .before .before .before .before .before .before .before .before .is-trade .ensures)) (c .before .cross-id .given .1)) e)
 
 shared-slice-read-is-trade : tie.Need-shared-slice-read-is-trade
 shared-slice-read-is-trade c = search needs
@@ -68,21 +101,18 @@ refused-requires-2 c κs = search needs
 
 returns-2 : tie.Need-returns-2
 returns-2 c =
-    let s = now (c .before .before .before .before .before .before .before .before .before .before .before .before .before .args .s) in
-    let n = withIds (c .before .before .before .before .before .before .before .before .before .before .before .before .before .args .n) (c .before .before .before .before .before .before .match-id .given .0 .0) (c .before .before .before .before .before .before .before .before .before .before .before .before .before .args .n .«cross_id») in
-    past 22 n s _ (lit< tt) (id-good (isTrade (getD s 8 0)) (part s 120 9) _ _ (c .before .before .before .before .before .before .before .before .id .ensures ∙ ap (λ (t : Bool). idOn t (part s 120 9)) (c .before .before .before .before .before .before .before .before .before .before .is-trade .ensures)) (c .before .before .before .before .before .before .match-id .given .1))
-    (stops 23 n s _ (lit< tt) (id-bad (isTrade (getD s 8 0)) (part s 129 9) _ (c .before .before .before .id2 .ensures ∙ ap (λ (t : Bool). idOn t (part s 129 9)) (c .before .before .before .before .before .before .before .before .before .before .is-trade .ensures)) (c .before .enum-told2 .given .1)) (c .refused2 .ensures))
+    let s = piece-23 (c .before .before .before .before .before) in
+    let n = numbers-23 (c .before .before .before .before .before) in
+    past-23 (c .before .before .before .before .before) _ (stops 23 n s _ (lit< tt) (id-bad (isTrade (getD s 8 0)) (part s 129 9) _ (c .before .before .before .id2 .ensures ∙ ap (λ (t : Bool). idOn t (part s 129 9)) (c .before .before .before .before .before .before .before .before .before .before .is-trade .ensures)) (c .before .enum-told2 .given .1)) (c .refused2 .ensures))
 
 record-of-requires : tie.Need-record-of-requires
 record-of-requires c κs = search needs
 
 returns-3 : tie.Need-returns-3
 returns-3 c =
-    let s = now (c .before .before .before .before .before .before .before .before .before .before .before .before .before .before .args .s) in
-    let n = withIds (c .before .before .before .before .before .before .before .before .before .before .before .before .before .before .args .n) (c .before .before .before .before .before .before .before .match-id .given .0 .0) (c .before .before .cross-id .given .0 .0) in
-    past 22 n s _ (lit< tt) (id-good (isTrade (getD s 8 0)) (part s 120 9) _ _ (c .before .before .before .before .before .before .before .before .before .id .ensures ∙ ap (λ (t : Bool). idOn t (part s 120 9)) (c .before .before .before .before .before .before .before .before .before .before .before .is-trade .ensures)) (c .before .before .before .before .before .before .before .match-id .given .1))
-    (past 23 n s _ (lit< tt) (id-good (isTrade (getD s 8 0)) (part s 129 9) _ _ (c .before .before .before .before .id2 .ensures ∙ ap (λ (t : Bool). idOn t (part s 129 9)) (c .before .before .before .before .before .before .before .before .before .before .before .is-trade .ensures)) (c .before .before .cross-id .given .1))
-    (all-read n s (c .record-of .result) (c .record-of .ensures) (id-number (isTrade (getD s 8 0)) (part s 120 9) _ _ (c .before .before .before .before .before .before .before .before .before .id .ensures ∙ ap (λ (t : Bool). idOn t (part s 120 9)) (c .before .before .before .before .before .before .before .before .before .before .before .is-trade .ensures)) (c .before .before .before .before .before .before .before .match-id .given .1)) (id-number (isTrade (getD s 8 0)) (part s 129 9) _ _ (c .before .before .before .before .id2 .ensures ∙ ap (λ (t : Bool). idOn t (part s 129 9)) (c .before .before .before .before .before .before .before .before .before .before .before .is-trade .ensures)) (c .before .before .cross-id .given .1))))
+    let s = piece-24 (c .before) in
+    let n = numbers-24 (c .before) in
+    past-24 (c .before) _ (all-read n s (c .record-of .result) (c .record-of .ensures) (id-number (isTrade (getD s 8 0)) (part s 120 9) _ _ (c .before .before .before .before .before .before .before .before .before .id .ensures ∙ ap (λ (t : Bool). idOn t (part s 120 9)) (c .before .before .before .before .before .before .before .before .before .before .before .is-trade .ensures)) (c .before .before .before .before .before .before .before .match-id .given .1)) (id-number (isTrade (getD s 8 0)) (part s 129 9) _ _ (c .before .before .before .before .id2 .ensures ∙ ap (λ (t : Bool). idOn t (part s 129 9)) (c .before .before .before .before .before .before .before .before .before .before .before .is-trade .ensures)) (c .before .before .cross-id .given .1)))
 
 pub trade-fields-spec : {M : Type 1} → statement M
 trade-fields-spec =
