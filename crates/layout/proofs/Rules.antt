@@ -112,7 +112,7 @@ pub all-append : (p : ℕ → Bool) (s t : List ℕ) → all p s ≡ true → al
 all-append p [] t h k = k
 all-append p (b ∷ s) t h k = let d = both (p b) (all p s) h in rw (d .0) (all-append p s t (d .1) k)
 
-all-wider : (p q : ℕ → Bool) → ((b : ℕ) → p b ≡ true → q b ≡ true) → (s : List ℕ) → all p s ≡ true → all q s ≡ true
+pub all-wider : (p q : ℕ → Bool) → ((b : ℕ) → p b ≡ true → q b ≡ true) → (s : List ℕ) → all p s ≡ true → all q s ≡ true
 all-wider p q h [] e = refl
 all-wider p q h (b ∷ s) e = let d = both (p b) (all p s) e in rw (h b (d .0)) (all-wider p q h s (d .1))
 

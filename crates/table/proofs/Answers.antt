@@ -1,0 +1,69 @@
+-- What the tests of the damage check say of its answer, over plain variables: one law for each way out.
+use Prim.Native.Nat.{ℕ, _-_, _≤_, _<_}
+use mathlib.Core.Path.{_≡_, sym, ap, _∙_}
+use mathlib.Core.Bool.{Bool, true, false, not, _&&_, and-assoc, and-false}
+use mathlib.Core.List.{List}
+use borrow.Author.Tests.{lt-ltb, le-leb, lt-leb, eq-eqb, ne-eqb, not-true, not-false}
+use lib.Dec.{ltb, leb, eqb}
+use lib.ListN.{length, getD}
+use Rattle.cell.specs.Cells.{isZero}
+use Rattle.field.specs.Byte.{all}
+use Rattle.layout.specs.Layout.{part}
+use Rattle.order.specs.declared.Order.{Order}
+use Rattle.day.specs.Damage.{undamaged}
+use Rattle.table.specs.Passing.{isMarked, elderFits, slotsSound}
+use Rattle.table.specs.Slots.{orderIn}
+use Rattle.table.specs.Tables.{countIn, limitOf, slot, sound, tableIn, tailsZero}
+
+-- ---- a test, and what it was said to be
+
+pub refuted : (r t : Bool) → r ≡ t → not r ≡ true → t ≡ false
+refuted r t e h = sym e ∙ not-true r h
+
+pub upheld : (r t : Bool) → r ≡ t → not r ≡ false → t ≡ true
+upheld r t e h = sym e ∙ not-false r h
+
+-- ---- an elder
+
+module _ (s flags : List ℕ) (i e : ℕ) where
+  pub not-earlier : i < e → false ≡ elderFits s flags i e
+  not-earlier h = rw (lt-leb e i h)
+
+  pub no-elder : e ≤ i → e ≡ 0 → true ≡ elderFits s flags i e
+  no-elder h z = rw (le-leb e i h, eq-eqb e 0 z)
+
+  pub claimed : (e ≡ 0 → ⊥) → isMarked flags e ≡ true → false ≡ elderFits s flags i e
+  claimed z m = rw (ne-eqb e 0 z, m, and-false)
+
+  pub unclaimed : (o : Order) → e ≤ i → (e ≡ 0 → ⊥) → isMarked flags e ≡ false → o ≡ orderIn (slot s (e - 1))
+      → eqb (o .figures .«open») 0 ≡ elderFits s flags i e
+  unclaimed o h z m q = ap (λ (x : Order). eqb (x .figures .«open») 0) q ∙ rw (le-leb e i h, ne-eqb e 0 z, m)
+
+-- ---- a table
+
+abbrev header : List ℕ → Bool
+header s = leb (getD s 4 0) 1 && all isZero (part s 5 3)
+
+regrouped : (a b c d e f : Bool) → (a && b && c && d && e && f) ≡ (a && b && (c && d) && (e && f))
+regrouped a b c d e f = rw (and-assoc (a && b) c d, and-assoc (a && b && (c && d)) e f)
+
+module _ (s : List ℕ) where
+  sound-parts : sound s ≡ (ltb 0 (limitOf (length s)) && leb (countIn s) (limitOf (length s)) && header s && slotsSound s)
+  unfolding sound
+  sound-parts =
+      regrouped (ltb 0 (limitOf (length s))) (leb (countIn s) (limitOf (length s))) (leb (getD s 4 0) 1) (all isZero (part s 5 3))
+      (tailsZero 0 (countIn s) s) (undamaged (limitOf (length s)) (tableIn s))
+
+  pub no-limit : limitOf (length s) ≡ 0 → false ≡ sound s
+  unfolding sound
+  no-limit e = rw e
+
+  pub too-many : limitOf (length s) < countIn s → false ≡ sound s
+  unfolding sound
+  too-many h = rw (lt-leb (countIn s) (limitOf (length s)) h, and-false)
+
+  pub bad-header : header s ≡ false → false ≡ sound s
+  bad-header e = sym (sound-parts ∙ rw (e, and-false))
+
+  pub good-header : 0 < limitOf (length s) → countIn s ≤ limitOf (length s) → header s ≡ true → slotsSound s ≡ sound s
+  good-header h k e = sym (sound-parts ∙ rw (lt-ltb 0 (limitOf (length s)) h, le-leb (countIn s) (limitOf (length s)) k, e))

@@ -1,0 +1,53 @@
+-- What the tests of a stored order say, over plain variables.
+use Prim.Native.Nat.{ℕ, _+_, _-_, _≤_, _<_}
+use native.Mathlib.Omega.{arith}
+use mathlib.Core.Path.{_≡_, refl, sym}
+use mathlib.Core.Bool.{Bool, true, false, _&&_, and-assoc}
+use mathlib.Core.List.{List}
+use borrow.Author.Tests.{eqb-true, eqb-false, eq-eqb, ne-eqb}
+use lib.Dec.{leb, eqb, leb·zero}
+use lib.ListN.{length}
+use Rattle.field.specs.Kept.{isText, member}
+use Rattle.layout.specs.Layout.{months, denominators, leastStrike}
+use Rattle.layout.specs.Rule.{kept, text, run, digits, num, lawful}
+use Rattle.order.specs.declared.Figures.{Figures}
+use Rattle.order.specs.declared.Series.{Series}
+use Rattle.day.specs.Damage.{lawfulSeries}
+
+pub text-lawful : (w : ℕ) (b : List ℕ) (r : Bool) → length b ≡ w → r ≡ isText b → r ≡ lawful (kept text) w (run b)
+text-lawful w b r h e = rw (eq-eqb (length b) w h) e
+
+pub strike-from : (least d v : ℕ) → least ≡ leastStrike d → (leb least v && leb v 999999) ≡ lawful (digits (leastStrike d) 999999) 6 (num v)
+strike-from least d v e = rw e
+
+pub least-e : (d : ℕ) → d ≡ 69 → 1 ≡ leastStrike d
+least-e d e = rw (eq-eqb d 69 e)
+
+pub least-other : (d : ℕ) → (d ≡ 69 → ⊥) → 100000 ≡ leastStrike d
+least-other d e = rw (ne-eqb d 69 e)
+
+pub series-lawful : (s : Series) (a b c d : Bool) → a ≡ lawful (kept text) 6 (run (s .root)) → b ≡ member (s .month) months
+    → c ≡ member (s .denominator) denominators → d ≡ lawful (digits (leastStrike (s .denominator)) 999999) 6 (num (s .strike))
+    → (a && b && leb 1 (s .date) && leb (s .date) 31 && leb (s .year) 99 && c && d) ≡ lawfulSeries s
+series-lawful s a b c d p q r t =
+    rw (p, q, r, t, and-assoc (lawful (kept text) 6 (run (s .root)) && member (s .month) months) (leb 1 (s .date)) (leb (s .date) 31), leb·zero)
+
+-- two tests that hold in the same cases
+same-test : (a b c d : ℕ) → (a ≡ b → c ≡ d) → (c ≡ d → a ≡ b) → eqb a b ≡ eqb c d
+same-test a b c d f g = go (eqb a b) refl
+  where
+    go : (t : Bool) → eqb a b ≡ t → t ≡ eqb c d
+    go true e = sym (eq-eqb c d (f (eqb-true a b e)))
+    go false e = sym (ne-eqb c d (λ q. eqb-false a b e (g q)))
+
+module _ (f : Figures) where
+  pub parts-exceed : f .size < f .executed + f .cancelled + f .passed
+      → false ≡ eqb (f .size) (f .executed + f .cancelled + f .passed + f .«open»)
+  parts-exceed h = sym (ne-eqb (f .size) (f .executed + f .cancelled + f .passed + f .«open») (λ e. omega arith))
+
+  -- the parts of a size may be taken from it one after another
+  pub parts-taken : f .executed + f .cancelled + f .passed ≤ f .size
+      → eqb (f .size - f .executed - f .cancelled - f .passed) (f .«open») ≡ eqb (f .size) (f .executed + f .cancelled + f .passed + f .«open»)
+  parts-taken h =
+      same-test (f .size - f .executed - f .cancelled - f .passed) (f .«open») (f .size)
+      (f .executed + f .cancelled + f .passed + f .«open») (λ e. omega arith) (λ e. omega arith)

@@ -1,0 +1,13 @@
+pub mod Answers
+pub mod Fields
+pub mod Laws
+pub mod Limits
+pub mod Lookups
+pub mod Making
+pub mod Marking
+pub mod Passes
+pub mod Room
+pub mod Runs
+pub mod Said
+pub mod Search
+pub mod Splits

@@ -1,0 +1,27 @@
+-- Flags of orders: none is up at first, and marking one puts up that one and no other.
+use Prim.Native.Nat.{ℕ, zero, suc, _<_}
+use mathlib.Core.Path.{_≡_, refl, ap}
+use mathlib.Core.Bool.{Bool, true, false, _||_}
+use mathlib.Core.List.{List}
+use borrow.Author.Tests.{eqb-true, eqb-false}
+use lib.Dec.{eqb}
+use lib.ListN.{length, getD, set, replicate, length-set}
+use lib.Seq.{getD-set-same, getD-set-other}
+use Rattle.table.specs.Passing.{Marks, isMarked}
+
+pub none-marked : (n x : ℕ) → isMarked (replicate n 0) x ≡ false
+unfolding isMarked
+none-marked zero x = refl
+none-marked (suc n) zero = refl
+none-marked (suc n) (suc x) = none-marked n x
+
+marked-set : (flags : List ℕ) (e x : ℕ) → e < length flags → isMarked (set flags e 1) x ≡ (eqb x e || isMarked flags x)
+unfolding isMarked
+marked-set flags e x h = go (eqb x e) refl
+  where
+    go : (t : Bool) → eqb x e ≡ t → eqb (getD (set flags e 1) x 0) 1 ≡ (t || eqb (getD flags x 0) 1)
+    go true q = rw (eqb-true x e q, getD-set-same flags e 1 0 h)
+    go false q = ap (λ b. eqb b 1) (getD-set-other flags e x 1 0 (eqb-false x e q))
+
+pub marks-set : (flags : List ℕ) (e : ℕ) → e < length flags → Marks e flags (set flags e 1)
+marks-set flags e h = record { room = length-set flags e 1; says = λ x. marked-set flags e x h }

@@ -1,0 +1,70 @@
+-- The first orders of a table, and what the tests of damage say of one order among them.
+use Prim.Native.Nat.{ℕ, zero, suc, _+_, _-_, _≤_, _<_}
+use native.Mathlib.Nat.{zero-add, suc-add}
+use native.Mathlib.Omega.{arith}
+use mathlib.Core.Path.{_≡_, refl, ap}
+use mathlib.Core.Bool.{Bool, true, false, not, _||_, or-true, or-assoc, or-comm}
+use mathlib.Core.List.{List, [], _∷_, _++_}
+use borrow.Author.Tests.{leb-true, eqb-true, eq-eqb}
+use lib.Dec.{leb, eqb}
+use lib.ListN.{length}
+use Rattle.field.specs.Kept.{member}
+use Rattle.layout.proofs.Rules.{both}
+use Rattle.order.specs.declared.Order.{Order}
+use Rattle.day.specs.Damage.{soundOrder, allSound, earlier, unshared, openAt, closed}
+use Rattle.day.proofs.Orders.{sole}
+use Rattle.table.specs.Passing.{openIn}
+use Rattle.table.specs.Slots.{orderIn}
+use Rattle.table.specs.Tables.{ordersIn, slot}
+
+-- ---- the orders that slots say
+
+pub length-orders : (k n : ℕ) (s : List ℕ) → length (ordersIn k n s) ≡ n
+length-orders k zero s = refl
+length-orders k (suc n) s = ap suc (length-orders (k + 1) n s)
+
+pub open-orders : (k n : ℕ) (s : List ℕ) (i p : ℕ) → i < n → p ≡ k + i → openAt (ordersIn k n s) i ≡ openIn s p
+open-orders k zero s i p h e = absurd (omega arith)
+open-orders k (suc n) s zero p h e = let q : p ≡ k = omega arith in rw q
+open-orders k (suc n) s (suc i) p h e = open-orders (k + 1) n s i p (omega arith) (omega arith)
+
+-- the order at place p, behind i others and before m
+pub orders-at : (k i m p : ℕ) (s : List ℕ) → p ≡ k + i → ordersIn k (i + suc m) s ≡ ordersIn k i s ++ (orderIn (slot s p) ∷ ordersIn (p + 1) m s)
+orders-at k zero m p s e = let q : p ≡ k = omega arith in rw (q, zero-add)
+orders-at k (suc i) m p s e = rw (suc-add i (suc m)) (ap (λ (os : List Order). orderIn (slot s k) ∷ os) (orders-at (k + 1) i m p s (omega arith)))
+
+-- ---- one order among others
+
+pub sound-among : (xs : List Order) (o : Order) (ys : List Order) → allSound (xs ++ (o ∷ ys)) ≡ true → soundOrder o ≡ true
+sound-among [] o ys a = both (soundOrder o) (allSound ys) a .0
+sound-among (x ∷ xs) o ys a = sound-among xs o ys (both (soundOrder x) (allSound (xs ++ (o ∷ ys))) a .1)
+
+pub earlier-among : (k : ℕ) (xs : List ℕ) (e : ℕ) (ys : List ℕ) → earlier k (xs ++ (e ∷ ys)) ≡ true → e ≤ k + length xs
+earlier-among k [] e ys a = omega (arith, leb-true e k (both (leb e k) (earlier (k + 1) ys) a .0))
+earlier-among k (x ∷ xs) e ys a =
+    omega (arith, earlier-among (k + 1) xs e ys (both (leb x k) (earlier (k + 1) (xs ++ (e ∷ ys))) a .1))
+
+pub closed-among : (os : List Order) (xs : List ℕ) (e : ℕ) (ys : List ℕ) → closed os (xs ++ (e ∷ ys)) ≡ true
+    → (eqb e 0 || eqb (openAt os (e - 1)) 0) ≡ true
+closed-among os [] e ys c = both (eqb e 0 || eqb (openAt os (e - 1)) 0) (closed os ys) c .0
+closed-among os (x ∷ xs) e ys c =
+    closed-among os xs e ys (both (eqb x 0 || eqb (openAt os (x - 1)) 0) (closed os (xs ++ (e ∷ ys))) c .1)
+
+member-among : (xs : List ℕ) (e : ℕ) (ys : List ℕ) → member e (xs ++ (e ∷ ys)) ≡ true
+member-among [] e ys = rw (eq-eqb e e refl)
+member-among (x ∷ xs) e ys = rw (member-among xs e ys) (or-true (eqb e x))
+
+pub member-behind : (b : ℕ) (xs : List ℕ) (e : ℕ) → member b (xs ++ (e ∷ [])) ≡ (eqb b e || member b xs)
+member-behind b [] e = refl
+member-behind b (x ∷ xs) e = rw (member-behind b xs e, ← or-assoc (eqb b x) (eqb b e) (member b xs), or-comm (eqb b x) (eqb b e), or-assoc)
+
+-- the definition looks forward, a pass looks back
+pub unshared-among : (xs : List ℕ) (e : ℕ) (ys : List ℕ) → unshared (xs ++ (e ∷ ys)) ≡ true → sole e xs ≡ true
+unshared-among [] e ys u = or-true (eqb e 0)
+unshared-among (x ∷ xs) e ys u =
+    let b = both (sole x (xs ++ (e ∷ ys))) (unshared (xs ++ (e ∷ ys))) u in
+    go (eqb e x) refl (unshared-among xs e ys (b .1)) (b .0)
+  where
+    go : (t : Bool) → eqb e x ≡ t → sole e xs ≡ true → sole x (xs ++ (e ∷ ys)) ≡ true → (eqb e 0 || not (t || member e xs)) ≡ true
+    go true q l f = let p = eqb-true e x q in rw (← p, member-among xs e ys) at f
+    go false q l f = l

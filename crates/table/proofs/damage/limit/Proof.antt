@@ -1,0 +1,13 @@
+-- `table::damage::limit` meets its contract.
+use Rattle.table.proofs.Limits.{limit-is, limit-none}
+use Rattle.table.proofs.damage.limit.Statement.{statement}
+use Rattle.table.proofs.damage.limit.Tie as tie
+
+returns : tie.Need-returns
+returns c = limit-is _ (c .if1 .taken)
+
+returns-2 : tie.Need-returns-2
+returns-2 c = limit-none _ (c .if1 .left)
+
+pub limit-spec : {M : Type 1} → statement M
+limit-spec = tie.close (tie.spec returns returns-2)

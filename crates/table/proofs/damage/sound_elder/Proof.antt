@@ -1,0 +1,33 @@
+-- `table::damage::sound_elder` meets its contract: one law for each way out.
+use mathlib.Core.Path.{sym, _∙_}
+use native.Mathlib.Omega.{arith}
+use borrow.Author.Needs.{needs}
+use Rattle.table.proofs.Answers.{not-earlier, no-elder, claimed, unclaimed}
+use Rattle.table.proofs.damage.sound_elder.Statement.{statement}
+use Rattle.table.proofs.damage.sound_elder.Tie as tie
+
+returns : tie.Need-returns
+returns c = not-earlier _ _ _ _ (c .if1 .taken)
+
+returns-2 : tie.Need-returns-2
+returns-2 c = no-elder _ _ _ _ (omega (arith, c .before .if1 .left)) (c .if2 .taken)
+
+marked-requires : tie.Need-marked-requires
+marked-requires c κs = search needs
+
+returns-3 : tie.Need-returns-3
+returns-3 c = claimed _ _ _ _ (c .before .before .if2 .left) (sym (c .before .marked .ensures) ∙ c .if3 .taken)
+
+sub-order-at : tie.Need-sub-order-at
+sub-order-at c = search needs
+
+order-at-requires : tie.Need-order-at-requires
+order-at-requires c κs = search needs
+
+returns-4 : tie.Need-returns-4
+returns-4 c = unclaimed _ _ _ _ _ (omega (arith, c .before .before .before .before .before .if1 .left)) (c .before .before .before .before .if2 .left) (sym (c .before .before .before .marked .ensures) ∙ c .before .before .if3 .left) (c .before .order-at .ensures)
+
+pub sound-elder-spec : {M : Type 1} → statement M
+sound-elder-spec =
+    tie.close
+    (tie.spec returns returns-2 marked-requires returns-3 sub-order-at order-at-requires returns-4)

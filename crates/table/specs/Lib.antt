@@ -1,0 +1,5 @@
+pub mod Passing
+pub mod Places
+pub mod Promises
+pub mod Slots
+pub mod Tables

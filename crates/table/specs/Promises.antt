@@ -1,0 +1,18 @@
+-- What each public entry of this crate promises: its answer in the paper's numbers and values, and each lent byte.
+use Prim.Native.Nat.{ℕ}
+use mathlib.Core.Path.{_≡_}
+use mathlib.Core.List.{List}
+use Rattle.refusal.specs.Answer.{Answer, value, refusedBy}
+use Rattle.table.specs.Tables.{makeAnswer, madeFrom}
+use Rattle.table.specs.declared.Made.{Made}
+use Rattle.table.specs.declared.Made.the-variants.{Done, Refused}
+
+-- the answer of making an empty table in the paper's terms
+abbrev pub madeOf : Made → Answer (Unit {0})
+madeOf Done = value tt
+madeOf (Refused r) = refusedBy r
+
+-- `table::make_empty`: `after` is the lent buffer when it returns
+pub record Makes (before : List ℕ) (x : Made) (after : List ℕ) : Type 0 where
+  pub said : madeOf x ≡ makeAnswer before
+  pub out : after ≡ madeFrom (makeAnswer before) before

@@ -1,0 +1,64 @@
+-- docs/LAYOUT.md, The lent table: header, slots, and when its bytes have a meaning.
+use Prim.Native.Nat.{ℕ, zero, suc, _+_, _*_}
+use mathlib.Core.Bool.{Bool, true, cond, _&&_}
+use mathlib.Core.List.{List, [], _∷_}
+use lib.Dec.{ltb, leb, eqb}
+use lib.ListN.{length, getD, replicate}
+use lib.Seq.{sets}
+use Rattle.cell.specs.Cells.{le, isZero}
+use Rattle.field.specs.Byte.{all}
+use Rattle.refusal.specs.Answer.{Answer, value, refused}
+use Rattle.layout.specs.Layout.{part}
+use Rattle.order.specs.declared.Order.{Order}
+use Rattle.day.specs.Damage.{undamaged}
+use Rattle.day.specs.Machine.{Table}
+use Rattle.table.specs.Slots.{orderIn}
+
+-- the bytes of a table with room for so many orders
+abbrev pub tableLength : ℕ → ℕ
+tableLength limit = 8 + 80 * limit
+
+-- the place of a slot
+abbrev pub slotAt : ℕ → ℕ
+slotAt i = 8 + 80 * i
+
+-- how many orders a table of so many bytes has room for; 0 where the length has no meaning
+abbrev pub limitOf : ℕ → ℕ
+limitOf n = cond (eqb n (tableLength 512)) 512 0
+
+abbrev pub countIn : List ℕ → ℕ
+countIn s = le (part s 0 4)
+
+abbrev pub slot : List ℕ → ℕ → List ℕ
+slot s i = part s (slotAt i) 80
+
+-- the first n orders
+abbrev pub ordersIn : ℕ → ℕ → List ℕ → List Order
+ordersIn i zero s = []
+ordersIn i (suc n) s = orderIn (slot s i) ∷ ordersIn (i + 1) n s
+
+-- the table that the bytes say
+abbrev pub tableIn : List ℕ → Table
+tableIn s = record { orders = ordersIn 0 (countIn s) s; over = eqb (getD s 4 0) 1 }
+
+-- the last five bytes of each slot in use are 0
+abbrev pub tailsZero : ℕ → ℕ → List ℕ → Bool
+tailsZero i zero s = true
+tailsZero i (suc n) s = all isZero (part s (slotAt i + 75) 5) && tailsZero (i + 1) n s
+
+-- 01, Damaged: a length or a stored byte that the layout gives no meaning, or orders that are damaged
+unfoldable pub sound : List ℕ → Bool
+sound s =
+    ltb 0 (limitOf (length s)) && leb (countIn s) (limitOf (length s)) && leb (getD s 4 0) 1 && all isZero (part s 5 3)
+    && tailsZero 0 (countIn s) s
+    && undamaged (limitOf (length s)) (tableIn s)
+
+-- 01, Refusals by number, 4 and 5: making the empty table in a lent buffer
+abbrev pub makeAnswer : List ℕ → Answer (Unit {0})
+makeAnswer before =
+    cond (ltb (length before) (tableLength 512)) (refused 4 0) (cond (eqb (length before) (tableLength 512)) (value tt) (refused 5 0))
+
+-- only the header is written: free slots keep whatever they hold
+abbrev pub madeFrom : Answer (Unit {0}) → List ℕ → List ℕ
+madeFrom (value u) before = sets before 0 (replicate 8 0)
+madeFrom (refused n f) before = before

@@ -1,0 +1,97 @@
+// The damage check: whether a lent slice of bytes says an undamaged table.
+ghost use Prim.Native.Nat.{_+_, _≤_, _<_};
+ghost use mathlib.Core.Path.{_≡_};
+ghost use mathlib.Core.Bool.{_&&_};
+ghost use lib.Dec.{leb};
+ghost use lib.ListN.{length, getD};
+ghost use Rattle.cell.specs.Cells.{isZero};
+ghost use Rattle.field.specs.Byte.{all};
+ghost use Rattle.layout.specs.Layout.{part};
+ghost use Rattle.table.specs.Passing.{elderFits, roomIn, slotFits, slotsSound};
+ghost use Rattle.table.specs.Tables.{countIn, limitOf, slotAt, sound};
+use crate::flags;
+use crate::slots;
+use crate::stored;
+use order::Order;
+
+// How many orders a table of so many bytes has room for, or 0.
+pub fn limit(len: usize) -> u64
+    ensures { λ r. ⌜ r ≡ limitOf len ⌝ }
+{
+    if len == 40_968 { 512 } else { 0 }
+}
+
+fn sound_header(t: &[u8]) -> bool
+    requires { ⌜ 8 ≤ length (now t) ⌝ }
+    ensures { λ r. ⌜ r ≡ (leb (getD (now (t .entry)) 4 0) 1 && all isZero (part (now (t .entry)) 5 3)) ⌝ }
+{
+    (t[4] <= 1) & cell::zeros(t, 5, 3)
+}
+
+// The last five bytes of the slot, and the order in it.
+fn sound_slot(t: &[u8], i: usize, o: Order) -> bool
+    requires { ⌜ slotAt i + 80 ≤ length (now t) ⌝ }
+    ensures { λ r. ⌜ r ≡ slotFits (now (t .entry)) i o ⌝ }
+{
+    cell::zeros(t, 8 + 80 * i + 75, 5) & stored::sound_order(o)
+}
+
+// The elder's slot is read only once it is known to be an earlier one.
+fn sound_elder(t: &[u8], flags: &[u8], i: usize, e: usize) -> bool
+    requires { ⌜ slotAt i + 80 ≤ length (now t) ⌝ }
+    requires { ⌜ i < roomIn (now flags) ⌝ }
+    ensures { λ r. ⌜ r ≡ elderFits (now (t .entry)) (now (flags .entry)) i e ⌝ }
+{
+    if i < e {
+        return false;
+    }
+    if e == 0 {
+        return true;
+    }
+    if flags::marked(flags, e) {
+        return false;
+    }
+    let elder = slots::order_at(t, e - 1);
+    elder.figures.open == 0
+}
+
+// One pass over the slots in use. The elders of those that it has seen are marked.
+fn sound_slots(t: &[u8], n: usize) -> bool
+    requires { ⌜ n ≡ countIn (now t) ⌝ }
+    requires { ⌜ n ≤ limitOf (length (now t)) ⌝ }
+    ensures { λ r. ⌜ r ≡ slotsSound (now (t .entry)) ⌝ }
+{
+    let mut flags = [0u8; 512];
+    let mut i = 0;
+    while i < n {
+        let o = slots::order_at(t, i);
+        let e = o.elder as usize;
+        if !sound_slot(t, i, o) {
+            return false;
+        }
+        if !sound_elder(t, &flags, i, e) {
+            return false;
+        }
+        flags::mark(&mut flags, e);
+        i += 1;
+    }
+    true
+}
+
+// For every slice of bytes: nothing is read before the length says that it is there.
+pub fn is_sound(t: &[u8]) -> bool
+    ensures { λ r. ⌜ r ≡ sound (now (t .entry)) ⌝ }
+{
+    let most = limit(t.len());
+    if most == 0 {
+        return false;
+    }
+    let n = slots::count(t);
+    if most < n {
+        return false;
+    }
+    if !sound_header(t) {
+        return false;
+    }
+    sound_slots(t, n as usize)
+}

@@ -1,0 +1,21 @@
+// Making the empty table in a lent buffer.
+ghost use Rattle.table.specs.Promises.{Makes};
+use crate::Made;
+use refusal::Refusal;
+
+// Header and 512 slots.
+const TABLE: usize = 40968;
+
+// Only the header is written: free slots keep whatever they hold.
+pub fn make_empty(t: &mut [u8]) -> Made
+    ensures { λ r. ⌜ Makes (now (t .entry)) r (now (t .exit)) ⌝ }
+{
+    if t.len() < TABLE {
+        return Made::Refused(Refusal::NoRoom);
+    }
+    if TABLE < t.len() {
+        return Made::Refused(Refusal::Damaged);
+    }
+    cell::put(t, 0, 8, 0);
+    Made::Done
+}

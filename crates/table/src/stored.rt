@@ -1,0 +1,90 @@
+// What a stored order may be, by value. A stored number is any that its bytes can say, not only what a line can.
+ghost use Prim.Native.Nat.{_+_};
+ghost use mathlib.Core.Path.{_≡_};
+ghost use lib.Dec.{eqb};
+ghost use Rattle.field.specs.Kept.{isText};
+ghost use Rattle.layout.specs.Layout.{leastStrike};
+ghost use Rattle.layout.specs.Rule.{digits, num, lawful};
+ghost use Rattle.day.specs.Damage.{lawfulKey, lawfulSeries, soundFigures, soundOrder};
+use field::Bytes;
+use field::kept;
+use order::Figures;
+use order::Key;
+use order::Order;
+use order::Series;
+
+fn is_text(s: &[u8]) -> bool
+    ensures { λ r. ⌜ r ≡ isText (now (s .entry)) ⌝ }
+{
+    let Bytes::Lawful = kept::text(s) else {
+        return false;
+    };
+    true
+}
+
+fn lawful_key(k: Key) -> bool
+    ensures { λ r. ⌜ r ≡ lawfulKey k ⌝ }
+{
+    let source = k.source;
+    let token = k.token;
+    is_text(&source) & is_text(&token)
+}
+
+fn lawful_strike(denominator: u8, strike: u64) -> bool
+    ensures { λ r. ⌜ r ≡ lawful (digits (leastStrike denominator) 999999) 6 (num strike) ⌝ }
+{
+    if denominator == b'E' {
+        return (1 <= strike) & (strike <= 999_999);
+    }
+    (100_000 <= strike) & (strike <= 999_999)
+}
+
+fn lawful_series(s: Series) -> bool
+    ensures { λ r. ⌜ r ≡ lawfulSeries s ⌝ }
+{
+    let root = s.root;
+    is_text(&root)
+        & kept::member(s.month, b"ABCDEFGHIJKLMNOPQRSTUVWX")
+        & (1 <= s.date)
+        & (s.date <= 31)
+        & (s.year <= 99)
+        & kept::member(s.denominator, b"ABCDE")
+        & lawful_strike(s.denominator, s.strike)
+}
+
+// The parts are taken from the size one after another, since stored figures may be too large for a sum.
+fn sums(f: Figures) -> bool
+    ensures { λ r. ⌜ r ≡ eqb (f .size) (f .executed + f .cancelled + f .passed + f .«open») ⌝ }
+{
+    if f.size < f.executed {
+        return false;
+    }
+    let unexecuted = f.size - f.executed;
+    if unexecuted < f.cancelled {
+        return false;
+    }
+    let uncancelled = unexecuted - f.cancelled;
+    if uncancelled < f.passed {
+        return false;
+    }
+    uncancelled - f.passed == f.open
+}
+
+fn sound_figures(f: Figures) -> bool
+    ensures { λ r. ⌜ r ≡ soundFigures f ⌝ }
+{
+    (1 <= f.size) & (f.size <= 999_999) & (f.broken <= f.executed) & sums(f)
+}
+
+pub fn sound_order(o: Order) -> bool
+    ensures { λ r. ⌜ r ≡ soundOrder o ⌝ }
+{
+    let key = o.key;
+    let series = o.series;
+    let figures = o.figures;
+    lawful_key(key)
+        & kept::member(o.side, b"BS")
+        & lawful_series(series)
+        & (o.price < 10_000_000_000)
+        & sound_figures(figures)
+}
