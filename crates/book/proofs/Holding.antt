@@ -1,0 +1,184 @@
+-- Bytes that hold a table: what a change of an order, one order more and the day's end make of them.
+use Prim.Native.Nat.{ℕ, _+_, _-_, _≤_, _<_}
+use native.Mathlib.Nat.{zero-add}
+use native.Mathlib.Omega.{arith}
+use mathlib.Core.Path.{_≡_, refl, sym, ap, _∙_}
+use mathlib.Core.Bool.{Bool, true, false}
+use mathlib.Core.List.{List, [], _∷_, _++_}
+use borrow.Author.Tests.{eqb-true, eqb-false}
+use lib.Dec.{eqb}
+use lib.ListN.{length, getD, set, replicate, length-set, length-append}
+use lib.Seq.{sets, length-sets, drop-at, getD-set-same}
+use Rattle.cell.specs.Cells.{le, leBytes, isZero}
+use Rattle.cell.proofs.Laws.{le-written, getD-part, part-part, part-before, part-after, part-whole}
+use Rattle.field.specs.Byte.{all}
+use Rattle.layout.specs.Layout.{part}
+use Rattle.order.specs.declared.Key.{Key}
+use Rattle.order.specs.declared.Order.{Order}
+use Rattle.day.specs.Machine.{Table, place, amend}
+use Rattle.table.specs.Slots.{slotBytes, termsBytes, figuresBytes, orderIn, Fits}
+use Rattle.table.specs.Tables.{slotAt, slot, countIn, ordersIn, tableIn}
+use Rattle.table.proofs.Laws.{stored-here, stored-elsewhere, header-kept, header-byte, orders-kept, orders-set, orders-append, length-orders, order-no}
+use Rattle.table.proofs.Lookups.{at-found, amend-at}
+use Rattle.table.proofs.Said.{length-slot}
+use Rattle.book.specs.Bytes.{changed, appended}
+
+abbrev pub TailZero : List ℕ → ℕ → Type 0
+TailZero s k = all isZero (part s (slotAt k + 75) 5) ≡ true
+
+-- the bytes of a table, damaged or not
+pub record Holds (s : List ℕ) (t : Table) : Type 0 where
+  pub long : length s ≡ 40968
+  pub few : countIn s ≤ 512
+  pub mark : getD s 4 0 ≤ 1
+  pub spare : all isZero (part s 5 3) ≡ true
+  pub tails : (k : ℕ) → k < countIn s → TailZero s k
+  pub says : tableIn s ≡ t
+
+abbrev pub AllFit : List Order → Type 0
+AllFit os = (none : Order) (i : ℕ) → i < length os → Fits (getD os i none)
+
+-- ---- tails
+
+slot-tail : (s : List ℕ) (k : ℕ) → part (slot s k) 75 5 ≡ part s (slotAt k + 75) 5
+slot-tail s k = part-part s (slotAt k) 80 75 5 (omega arith)
+
+tail-written : (o : Order) → Fits o → part (slotBytes o) 75 5 ≡ replicate 5 0
+tail-written o f =
+    let front = termsBytes o ++ leBytes 2 (o .elder) ++ figuresBytes (o .figures) in
+    let wide : length front ≡ 75 = simp (length-append, f .source .0, f .token .0, f .root .0) in
+    rw (drop-at front (replicate 5 0) 75 wide)
+
+-- ---- an order is stored
+
+module _ (s : List ℕ) (i : ℕ) (o : Order) where
+  abbrev now : List ℕ
+  now = sets s (slotAt i) (slotBytes o)
+
+  same-count : countIn now ≡ countIn s
+  same-count = ap le (header-kept s (slotBytes o) i 0 4 (omega arith))
+
+  same-mark : getD now 4 0 ≡ getD s 4 0
+  same-mark = header-byte s (slotBytes o) i 4 (omega arith)
+
+  same-spare : part now 5 3 ≡ part s 5 3
+  same-spare = header-kept s (slotBytes o) i 5 3 (omega arith)
+
+  stored-tail : Fits o → slotAt i + 80 ≤ length s → (k : ℕ) → ((k ≡ i → ⊥) → TailZero s k) → TailZero now k
+  stored-tail f room k h = go (eqb k i) refl
+    where
+      go : (t : Bool) → eqb k i ≡ t → TailZero now k
+      go true q =
+          let here = ap (λ b. part b 75 5) (stored-here s i (slotBytes o) (length-slot f) room) ∙ tail-written o f in
+          rw (eqb-true k i q) (ap (all isZero) (sym (slot-tail now i) ∙ here))
+      go false q =
+          let other = eqb-false k i q in
+          let same = ap (λ b. part b 75 5) (stored-elsewhere s i k (slotBytes o) (length-slot f) (λ e. other (sym e))) in
+          ap (all isZero) (sym (slot-tail now k) ∙ same ∙ slot-tail s k) ∙ h other
+
+  set-holds : {t : Table} → Holds s t → i < countIn s → Fits o → Holds now (record { orders = set (t .orders) i o; over = t .over })
+  set-holds {t} h l f =
+      record {
+        long = length-sets s (slotAt i) (slotBytes o) ∙ h .long;
+        few = rw same-count (h .few);
+        mark = rw same-mark (h .mark);
+        spare = rw same-spare (h .spare);
+        tails = λ k m. stored-tail f (omega (arith, h .long, h .few)) k (λ d. h .tails k (rw same-count at m));
+        says =
+            (λ j. record { orders = orders j; over = eqb (same-mark j) 1 })
+            ∙ ap (λ (t : Table). record { orders = set (t .orders) i o; over = t .over }) (h .says);
+      }
+    where
+      orders : ordersIn 0 (countIn now) now ≡ set (ordersIn 0 (countIn s) s) i o
+      orders = ap (λ n. ordersIn 0 n now) same-count ∙ orders-set s (countIn s) i o f l (omega (arith, h .long, h .few))
+
+-- the earliest order with a key is changed
+pub changed-holds : {s : List ℕ} (k : Key) (f : Order → Order) (i : ℕ) → Holds s (tableIn s) → place k (tableIn s .orders) ≡ i + 1
+    → AllFit (amend k f (tableIn s .orders))
+    → Holds (changed k f s) (record { orders = amend k f (tableIn s .orders); over = tableIn s .over })
+changed-holds {s} k f i h e fit =
+    let os = tableIn s .orders in
+    let none = orderIn (slot s i) in
+    let at : place k os - 1 ≡ i = omega arith in
+    let inside = at-found k os i none e .0 in
+    let n = length-orders 0 (countIn s) s in
+    let theirs : getD os i none ≡ none = order-no 0 (countIn s) s i none (omega arith) ∙ ap (λ j. orderIn (slot s j)) (zero-add i) in
+    let amended : amend k f os ≡ set os i (f none) = amend-at k f os i none e ∙ ap (λ o. set os i (f o)) theirs in
+    let changes : Fits (f none) = rw (amended, getD-set-same os i (f none) none inside) at (fit none i (rw (amended, length-set) inside)) in
+    rw (at, amended) (set-holds s i (f none) h (omega arith) changes)
+
+-- ---- a store into the header
+
+tail-kept : (s b : List ℕ) (at : ℕ) → at + length b ≤ 8 → (k : ℕ) → TailZero s k → TailZero (sets s at b) k
+tail-kept s b at small k z = ap (all isZero) (part-after s b at (slotAt k + 75) 5 (omega arith)) ∙ z
+
+-- one order more
+module _ (s : List ℕ) (o : Order) where
+  abbrev stored : List ℕ
+  stored = sets s (slotAt (countIn s)) (slotBytes o)
+
+  abbrev counted : List ℕ
+  counted = leBytes 4 (countIn s + 1)
+
+  pub appended-holds : {t : Table} → Holds s t → length (t .orders) < 512 → Fits o
+      → Holds (appended o s) (record { orders = t .orders ++ (o ∷ []); over = t .over })
+  appended-holds {t} h room f =
+      record {
+        long = length-sets stored 0 counted ∙ same-length ∙ h .long;
+        few = rw count (omega (arith, its-count));
+        mark = rw mark (h .mark);
+        spare = rw (part-after stored counted 0 5 3 (omega arith), same-spare s (countIn s) o) (h .spare);
+        tails =
+            λ k m.
+            tail-kept stored counted 0 (omega arith) k
+            (stored-tail s (countIn s) o f inside k (λ d. h .tails k (omega (arith, d, count, m))));
+        says =
+            (λ j. record { orders = orders j; over = eqb (mark j) 1 })
+            ∙ ap (λ (t : Table). record { orders = t .orders ++ (o ∷ []); over = t .over }) (h .says);
+      }
+    where
+      its-count : countIn s ≡ length (t .orders)
+      its-count = sym (length-orders 0 (countIn s) s) ∙ ap (λ (t : Table). length (t .orders)) (h .says)
+
+      inside : slotAt (countIn s) + 80 ≤ length s
+      inside = omega (arith, its-count, h .long)
+
+      same-length : length stored ≡ length s
+      same-length = length-sets s (slotAt (countIn s)) (slotBytes o)
+
+      count : countIn (appended o s) ≡ countIn s + 1
+      count =
+          ap le (part-whole stored counted 0 4 (omega (arith, same-length, h .long)) refl)
+          ∙ le-written 4 (countIn s + 1) (omega (arith, its-count))
+
+      mark : getD (appended o s) 4 0 ≡ getD s 4 0
+      mark =
+          sym (getD-part (appended o s) 4 1 0 (omega arith)) ∙ ap (λ l. getD l 0 0) (part-after stored counted 0 4 1 (omega arith))
+          ∙ getD-part stored 4 1 0 (omega arith)
+          ∙ same-mark s (countIn s) o
+
+      orders : ordersIn 0 (countIn (appended o s)) (appended o s) ≡ ordersIn 0 (countIn s) s ++ (o ∷ [])
+      orders =
+          ap (λ n. ordersIn 0 n (appended o s)) count ∙ orders-kept stored counted 0 (countIn s + 1) (omega arith)
+          ∙ orders-append s (countIn s) o f inside
+
+-- the day's end
+pub over-holds : {s : List ℕ} {t : Table} → Holds s t → Holds (sets s 4 (1 ∷ [])) (record { orders = t .orders; over = true })
+over-holds {s} {t} h =
+    record {
+      long = length-sets s 4 (1 ∷ []) ∙ h .long;
+      few = rw count (h .few);
+      mark = rw mark (omega arith);
+      spare = rw (part-after s (1 ∷ []) 4 5 3 (omega arith)) (h .spare);
+      tails = λ k m. tail-kept s (1 ∷ []) 4 (omega arith) k (h .tails k (rw count at m));
+      says = (λ j. record { orders = orders j; over = eqb (mark j) 1 }) ∙ ap (λ (t : Table). record { orders = t .orders; over = true }) (h .says);
+    }
+  where
+    count : countIn (sets s 4 (1 ∷ [])) ≡ countIn s
+    count = ap le (part-before s (1 ∷ []) 4 0 4 (omega arith))
+
+    mark : getD (sets s 4 (1 ∷ [])) 4 0 ≡ 1
+    mark = getD-set-same s 4 1 0 (omega (arith, h .long))
+
+    orders : ordersIn 0 (countIn (sets s 4 (1 ∷ []))) (sets s 4 (1 ∷ [])) ≡ ordersIn 0 (countIn s) s
+    orders = ap (λ n. ordersIn 0 n (sets s 4 (1 ∷ []))) count ∙ orders-kept s (1 ∷ []) 4 (countIn s) (omega arith)

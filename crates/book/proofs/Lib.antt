@@ -1,0 +1,9 @@
+pub mod Booked
+pub mod Determined
+pub mod Holding
+pub mod Machine
+pub mod Planned
+pub mod Reached
+pub mod Sound
+pub mod Tested
+pub mod Whole

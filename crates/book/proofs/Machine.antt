@@ -1,0 +1,128 @@
+-- A sound table after a piece: it holds what the state machine says, and it is sound again.
+use Prim.Native.Nat.{ℕ, zero, suc, _+_, _≤_}
+use native.Mathlib.Omega.{arith}
+use mathlib.Core.Path.{_≡_, refl, ap, _∙_}
+use mathlib.Core.Bool.{Bool, true, false, cond}
+use mathlib.Core.List.{List, [], _∷_, _++_}
+use borrow.Author.Tests.{leb-true, leb-false, eqb-true}
+use lib.Dec.{leb, eqb}
+use lib.ListN.{length, length-append, List·getD-append}
+use lib.Seq.{getD-append-seam}
+use Rattle.refusal.specs.Answer.{Answer, value, refused}
+use Rattle.layout.specs.Line.{Said, endOfDay, line, read}
+use Rattle.layout.specs.declared.Event.{Event}
+use Rattle.layout.specs.declared.Event.the-variants.{Accepted, Executed, Cancelled, Broken, Replaced, Repriced}
+use Rattle.layout.specs.declared.Record.{Record}
+use Rattle.layout.proofs.Rules.{both}
+use Rattle.order.specs.Figure.{passedOn}
+use Rattle.order.specs.Names.{elderKeyOf}
+use Rattle.order.specs.declared.Key.{Key}
+use Rattle.order.specs.declared.Order.{Order}
+use Rattle.day.specs.Damage.{soundOrder, allSound, eldersOf, earlier, undamaged}
+use Rattle.day.specs.History.{isNew}
+use Rattle.day.specs.Machine.{Table, place, amend, withFigures, newOrder, refusalOf, bookEvent, accept, Booked, bookRead}
+use Rattle.day.specs.Machine.{book as bookDay}
+use Rattle.day.proofs.Admitted.{Admitted, admitted, Spoken, spoken}
+use Rattle.day.proofs.Orders.{Finds, stands, length-amend}
+use Rattle.day.proofs.Sound.{book-undamaged}
+use Rattle.day.proofs.Undamaged.{apart}
+use Rattle.table.specs.Slots.{Fits}
+use Rattle.table.specs.Tables.{limitOf, tableIn, sound}
+use Rattle.table.proofs.Limits.{limit-is, limit-most}
+use Rattle.table.proofs.Room.{sound-fits}
+use Rattle.book.specs.Bytes.{changed, eventBytes, acceptBytes, readBytes, bookBytes}
+use Rattle.book.proofs.Holding.{Holds, AllFit, changed-holds, appended-holds, over-holds}
+use Rattle.book.proofs.Sound.{sound-holds, holds-sound}
+
+-- ---- undamaged orders have room in their slots
+
+fit-from : (k : ℕ) (os : List Order) → k + length os ≤ 512 → earlier k (eldersOf os) ≡ true → allSound os ≡ true → AllFit os
+fit-from k [] h a s none i l = absurd (omega arith)
+fit-from k (o ∷ os) h a s none zero l =
+    let e = leb-true (o .elder) k (both (leb (o .elder) k) (earlier (k + 1) (eldersOf os)) a .0) in
+    sound-fits o (both (soundOrder o) (allSound os) s .0) (omega arith)
+fit-from k (o ∷ os) h a s none (suc i) l =
+    fit-from (k + 1) os (omega arith) (both (leb (o .elder) k) (earlier (k + 1) (eldersOf os)) a .1) (both (soundOrder o) (allSound os) s .1) none i
+    (omega arith)
+
+last-fits : (os : List Order) (o : Order) → AllFit (os ++ (o ∷ [])) → Fits o
+last-fits os o f = rw (getD-append-seam os o [] o) at (f o (length os) (rw length-append (omega arith)))
+
+others-fit : (os : List Order) (o : Order) → AllFit (os ++ (o ∷ [])) → AllFit os
+others-fit os o f none i l = rw (List·getD-append os (o ∷ []) none i l) at (f none i (rw length-append (omega arith)))
+
+-- ---- an accepted line
+
+module _ {s : List ℕ} (h : Holds s (tableIn s)) where
+  abbrev os : List Order
+  os = tableIn s .orders
+
+  found-holds : {k : Key} {o : Order} (f : Order → Order) → Finds k os o → AllFit (amend k f os)
+      → Holds (changed k f s) (record { orders = amend k f os; over = tableIn s .over })
+  found-holds {k} f e fit = let (i, p) = stands f e in changed-holds k f i h (omega (arith, p .numbered)) fit
+
+  event-holds : {limit : ℕ} {r : Record} → limit ≤ 512 → Admitted limit os r → (e : Event) → r .event ≡ e
+      → (isNew e ≡ false → (o : Order) × Spoken os r o) → AllFit (bookEvent e r os)
+      → Holds (eventBytes e r s) (record { orders = bookEvent e r os; over = tableIn s .over })
+  event-holds {limit} {r} most a Accepted q theirs fit =
+      let room = leb-false limit (length os) (rw q at (a .room)) in
+      appended-holds s (newOrder r 0) h (omega arith) (last-fits os (newOrder r 0) fit)
+  event-holds most a (Executed t) q theirs fit = let (o, p) = theirs refl in found-holds _ (rw q at (p .finds)) fit
+  event-holds most a Cancelled q theirs fit = let (o, p) = theirs refl in found-holds _ (rw q at (p .finds)) fit
+  event-holds most a (Broken t) q theirs fit = let (o, p) = theirs refl in found-holds _ (rw q at (p .finds)) fit
+  event-holds {limit} {r} most a Replaced q theirs fit =
+      let (o, p) = theirs refl in
+      let k = elderKeyOf r in
+      let f = withFigures passedOn in
+      let young = newOrder r (place k os) in
+      let elders = found-holds f (rw q at (p .finds)) (others-fit (amend k f os) young fit) in
+      let room = leb-false limit (length os) (rw q at (a .room)) in
+      appended-holds (changed k f s) young elders (omega (arith, length-amend k f os)) (last-fits (amend k f os) young fit)
+  event-holds most a Repriced q theirs fit = let (o, p) = theirs refl in found-holds _ (rw q at (p .finds)) fit
+
+-- ---- a piece
+
+module _ {s : List ℕ} (h : Holds s (tableIn s)) where
+  abbrev limit : ℕ
+  limit = limitOf (length s)
+
+  fit : (t : Table) → undamaged limit t ≡ true → AllFit (t .orders)
+  fit t u = let a = apart limit t u in fit-from 0 (t .orders) (omega (arith, a .fits, limit-most (length s))) (a .early) (a .sound)
+
+  -- what the state machine says once the test for a refusal came out as b
+  abbrev after : Said → Bool → Booked
+  after x b =
+      cond b (record { table = accept x (tableIn s); answer = value tt })
+      (record { table = tableIn s; answer = refused (refusalOf limit (tableIn s) x) 0 })
+
+  said-holds : (x : Said) (b : Bool) → eqb (refusalOf limit (tableIn s) x) 0 ≡ b → undamaged limit (after x b .table) ≡ true
+      → Holds (cond b (acceptBytes x s) s) (after x b .table)
+  said-holds x false z u = h
+  said-holds endOfDay true z u = over-holds h
+  said-holds (line r) true z u =
+      let a = admitted limit (tableIn s) r (eqb-true (refusalOf limit (tableIn s) (line r)) 0 z) in
+      event-holds h (limit-most (length s)) a (r .event) refl (λ n. spoken n a) (fit (accept (line r) (tableIn s)) u)
+
+  read-holds : (a : Answer Said) → undamaged limit (bookRead limit (tableIn s) a .table) ≡ true
+      → Holds (readBytes a s) (bookRead limit (tableIn s) a .table)
+  read-holds (value x) u = said-holds x (eqb (refusalOf limit (tableIn s) x) 0) refl u
+  read-holds (refused n f) u = h
+
+-- ---- booking
+
+booked-holds : (s p : List ℕ) → sound s ≡ true → Holds (bookBytes s p) (bookDay (limitOf (length s)) (tableIn s) p .table)
+unfolding bookBytes
+booked-holds s p e =
+    let (h, u) = sound-holds s e in
+    rw e (read-holds h (read p) (book-undamaged (limitOf (length s)) (tableIn s) p u))
+
+pub booked-table : (s p : List ℕ) → sound s ≡ true → tableIn (bookBytes s p) ≡ bookDay (limitOf (length s)) (tableIn s) p .table
+booked-table s p e = booked-holds s p e .says
+
+pub booked-sound : (s p : List ℕ) → sound s ≡ true → sound (bookBytes s p) ≡ true
+booked-sound s p e =
+    let (h, u) = sound-holds s e in
+    let limit = limitOf (length s) in
+    let after = bookDay limit (tableIn s) p .table in
+    holds-sound (booked-holds s p e)
+    (ap (λ n. undamaged n after) (limit-is (length s) (h .long)) ∙ book-undamaged limit (tableIn s) p u)

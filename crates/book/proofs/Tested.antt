@@ -1,0 +1,60 @@
+-- What the tests of a line say of the order that it speaks of.
+use Prim.Native.Nat.{ℕ, _+_, _-_, _≤_}
+use native.Mathlib.Nat.{le-of-eq}
+use mathlib.Core.Path.{_≡_, sym, ap, ap₂, _∙_}
+use mathlib.Core.Bool.{Bool, true, false, _&&_, or-false}
+use mathlib.Core.List.{List}
+use borrow.Author.Tests.{ltb-false}
+use Rattle.layout.specs.declared.Event.the-variants.{Executed, Cancelled, Broken}
+use Rattle.layout.specs.declared.Record.{Record}
+use Rattle.layout.specs.declared.Trade.{Trade}
+use Rattle.order.specs.declared.Key.{Key}
+use Rattle.order.specs.declared.Order.{Order}
+use Rattle.day.specs.Machine.{found, find, isFound, place, notOpen, notExecuted}
+use Rattle.table.specs.Places.{placeNo}
+use Rattle.table.specs.Tables.{ordersIn}
+use Rattle.table.specs.declared.Place.{Place}
+use Rattle.table.proofs.Lookups.{at-found, nobody-found}
+use lib.ListN.{length}
+use lib.Seq.{take-all}
+use Rattle.layout.specs.Layout.{part}
+use Rattle.layout.specs.Line.{same}
+
+-- a run compared from its start on
+pub same-whole : (a b : List ℕ) → length a ≡ length b → same (part a 0 (length b)) b ≡ same a b
+same-whole a b e = ap (λ l. same l b) (take-all (length b) a (le-of-eq e))
+
+-- ---- whether a key is taken
+
+module _ (maker : Bool) (k : Key) (os : List Order) where
+  pub no-maker : maker ≡ false → false ≡ (maker && isFound (find k os))
+  no-maker e = rw e
+
+  pub maker-unknown : maker ≡ true → place k os ≡ 0 → false ≡ (maker && isFound (find k os))
+  maker-unknown e p = rw (e, nobody-found k os p)
+
+  pub maker-known : maker ≡ true → (i : ℕ) (none : Order) → place k os ≡ i + 1 → true ≡ (maker && isFound (find k os))
+  maker-known e i none p = rw (e, at-found k os i none p .1)
+
+-- ---- where a lookup found it
+
+pub place-is : (s : List ℕ) (p q : Place) (k l : Key) (n m : ℕ) → placeNo p ≡ place k (ordersIn 0 n s) → p ≡ q → k ≡ l → n ≡ m
+    → place l (ordersIn 0 m s) ≡ placeNo q
+place-is s p q k l n m e f g h = sym (ap₂ (λ x y. place x (ordersIn 0 y s)) g h) ∙ sym e ∙ ap placeNo f
+
+-- ---- what a test that failed leaves
+
+module _ (o : Order) (r : Record) where
+  pub executable : (t : Trade) → r .event ≡ Executed t → notOpen r (found o) ≡ false → r .contracts ≤ o .figures .«open»
+  executable t e h = ltb-false (o .figures .«open») (r .contracts) (rw (e, or-false) at h)
+
+  pub cancellable : r .event ≡ Cancelled → notOpen r (found o) ≡ false → r .contracts ≤ o .figures .«open»
+  cancellable e h = ltb-false (o .figures .«open») (r .contracts) (rw (e, or-false) at h)
+
+  pub breakable : (t : Trade) → r .event ≡ Broken t → notExecuted r (found o) ≡ false → r .contracts ≤ o .figures .executed - o .figures .broken
+  breakable t e h = ltb-false (o .figures .executed - o .figures .broken) (r .contracts) (rw e at h)
+
+-- ---- two tests in one
+
+pub both-are : {w : Bool} (a b c d : Bool) → a ≡ c → b ≡ d → (a && b) ≡ w → (c && d) ≡ w
+both-are a b c d e f h = rw (e, f) at h

@@ -1,0 +1,65 @@
+-- What booking does to the bytes of a lent table (docs/LAYOUT.md).
+use Prim.Native.Nat.{ℕ, _+_, _-_}
+use mathlib.Core.Bool.{cond}
+use mathlib.Core.List.{List, [], _∷_}
+use lib.Dec.{eqb}
+use lib.ListN.{length, replicate}
+use lib.Seq.{sets}
+use Rattle.cell.specs.Cells.{leBytes}
+use Rattle.refusal.specs.Answer.{Answer, value, refused}
+use Rattle.layout.specs.Line.{Said, endOfDay, line, read}
+use Rattle.layout.specs.declared.Event.{Event}
+use Rattle.layout.specs.declared.Event.the-variants.{Accepted, Executed, Cancelled, Broken, Replaced, Repriced}
+use Rattle.layout.specs.declared.Record.{Record}
+use Rattle.order.specs.Figure.{executedBy, brokenBy, cancelledBy, passedOn}
+use Rattle.order.specs.Names.{keyOf, elderKeyOf}
+use Rattle.order.specs.declared.Key.{Key}
+use Rattle.order.specs.declared.Order.{Order}
+use Rattle.day.specs.Machine.{place, refusalOf, withFigures, withPrice, newOrder}
+use Rattle.day.specs.Machine.{book as bookDay}
+use Rattle.table.specs.Slots.{orderIn, slotBytes}
+use Rattle.table.specs.Tables.{slotAt, slot, countIn, limitOf, tableIn, sound}
+
+-- the order at place i changed
+abbrev pub changedAt : ℕ → (Order → Order) → List ℕ → List ℕ
+changedAt i f s = sets s (slotAt i) (slotBytes (f (orderIn (slot s i))))
+
+-- the earliest order with a key changed
+abbrev pub changed : Key → (Order → Order) → List ℕ → List ℕ
+changed k f s = changedAt (place k (tableIn s .orders) - 1) f s
+
+-- one order more, behind the others
+abbrev pub appended : Order → List ℕ → List ℕ
+appended o s = sets (sets s (slotAt (countIn s)) (slotBytes o)) 0 (leBytes 4 (countIn s + 1))
+
+abbrev pub eventBytes : Event → Record → List ℕ → List ℕ
+eventBytes Accepted r s = appended (newOrder r 0) s
+eventBytes (Executed t) r s = changed (keyOf r) (withFigures (λ f. executedBy f (r .contracts))) s
+eventBytes Cancelled r s = changed (keyOf r) (withFigures (λ f. cancelledBy f (r .contracts))) s
+eventBytes (Broken t) r s = changed (keyOf r) (withFigures (λ f. brokenBy f (r .contracts))) s
+eventBytes Replaced r s = appended (newOrder r (place (elderKeyOf r) (tableIn s .orders))) (changed (elderKeyOf r) (withFigures passedOn) s)
+eventBytes Repriced r s = changed (keyOf r) (withPrice (r .price)) s
+
+abbrev pub acceptBytes : Said → List ℕ → List ℕ
+acceptBytes endOfDay s = sets s 4 (1 ∷ [])
+acceptBytes (line r) s = eventBytes (r .event) r s
+
+-- an undamaged table after a piece that says x
+abbrev pub saidBytes : Said → List ℕ → List ℕ
+saidBytes x s = cond (eqb (refusalOf (limitOf (length s)) (tableIn s) x) 0) (acceptBytes x s) s
+
+abbrev pub readBytes : Answer Said → List ℕ → List ℕ
+readBytes (value x) s = saidBytes x s
+readBytes (refused n f) s = s
+
+-- 01, Order of checks: booking a piece: 5, 1, 2, 3, then 6 to 12; a refusal changes not one byte
+unfoldable pub bookBytes : List ℕ → List ℕ → List ℕ
+bookBytes s p = cond (sound s) (readBytes (read p) s) s
+
+unfoldable pub bookAnswer : List ℕ → List ℕ → Answer (Unit {0})
+bookAnswer s p = cond (sound s) (bookDay (limitOf (length s)) (tableIn s) p .answer) (refused 5 0)
+
+-- a buffer once the empty table is made in it and pieces are booked, the latest first
+abbrev pub bytesAfter : List ℕ → List (List ℕ) → List ℕ
+bytesAfter before [] = sets before 0 (replicate 8 0)
+bytesAfter before (p ∷ ps) = bookBytes (bytesAfter before ps) p

@@ -1,0 +1,111 @@
+// The plan for a line: the first of refusals 6 to 12 that applies, or what is to be stored. No byte is changed here.
+ghost use mathlib.Core.Path.{_≡_};
+ghost use mathlib.Core.Bool.{true, false, _&&_};
+ghost use lib.Dec.{leb};
+ghost use lib.ListN.{length};
+ghost use Rattle.order.specs.Figure.{Sound};
+ghost use Rattle.order.specs.Names.{keyOf};
+ghost use Rattle.day.specs.History.{isNew, isMaker};
+ghost use Rattle.day.specs.Machine.{found, find, isFound, notOpen, notExecuted};
+ghost use Rattle.table.specs.Tables.{limitOf, tableIn, sound};
+ghost use Rattle.book.specs.Plans.{Plans, planBy};
+use crate::Plan;
+use crate::tests;
+use layout::Event;
+use layout::Record;
+use order::Order;
+use refusal::Refusal;
+use table::Place;
+use table::damage;
+use table::lookup;
+use table::slots;
+
+// The tests that need no order of the table come first, as 01 has them.
+pub fn plan(t: &[u8], r: Record) -> Plan
+    requires { ⌜ sound (now t) ≡ true ⌝ }
+    ensures { λ p. ⌜ Plans (now (t .entry)) r p ⌝ }
+{
+    if slots::is_over(t) {
+        return Plan::No(Refusal::DayOver);
+    }
+    if is_taken(t, r) {
+        return Plan::No(Refusal::KnownKey);
+    }
+    let event = r.event;
+    if !tests::is_new(event) {
+        return plan_older(t, r);
+    }
+    if is_full(t) {
+        return Plan::No(Refusal::Full);
+    }
+    Plan::New
+}
+
+// Whether a line would make an order with a key that is in the table.
+fn is_taken(t: &[u8], r: Record) -> bool
+    requires { ⌜ sound (now t) ≡ true ⌝ }
+    ensures { λ x. ⌜ x ≡ (isMaker (r .event) && isFound (find (keyOf r) (tableIn (now (t .entry)) .orders))) ⌝ }
+{
+    let event = r.event;
+    if !tests::is_maker(event) {
+        return false;
+    }
+    let Place::At(_) = lookup::find_key(t, slots::count(t) as usize, order::key_of(r)) else {
+        return false;
+    };
+    true
+}
+
+fn is_full(t: &[u8]) -> bool
+    requires { ⌜ sound (now t) ≡ true ⌝ }
+    ensures { λ x. ⌜ x ≡ leb (limitOf (length (now (t .entry)))) (length (tableIn (now (t .entry)) .orders)) ⌝ }
+{
+    damage::limit(t.len()) <= slots::count(t)
+}
+
+// A line about an order of the table.
+fn plan_older(t: &[u8], r: Record) -> Plan
+    requires { ⌜ sound (now t) ≡ true ⌝ }
+    requires { ⌜ tableIn (now t) .over ≡ false ⌝ }
+    requires { ⌜ (isMaker (r .event) && isFound (find (keyOf r) (tableIn (now t) .orders))) ≡ false ⌝ }
+    requires { ⌜ isNew (r .event) ≡ false ⌝ }
+    ensures { λ p. ⌜ Plans (now (t .entry)) r p ⌝ }
+{
+    let Place::At(i) = lookup::find_key(t, slots::count(t) as usize, tests::subject(r)) else {
+        return Plan::No(Refusal::UnknownKey);
+    };
+    let o = slots::order_at(t, i);
+    if tests::differs(o, r) {
+        return Plan::No(Refusal::OtherSeries);
+    }
+    if tests::not_open(o, r) {
+        return Plan::No(Refusal::NotOpen);
+    }
+    if tests::not_executed(o, r) {
+        return Plan::No(Refusal::NotExecuted);
+    }
+    let event = r.event;
+    if tests::is_maker(event) & is_full(t) {
+        return Plan::No(Refusal::Full);
+    }
+    plan_by(i, o, r)
+}
+
+// What no test refused. Only an A has no order at a place; the place is then not looked at.
+fn plan_by(i: usize, o: Order, r: Record) -> Plan
+    requires { ⌜ Sound (o .figures) ⌝ }
+    requires { ⌜ notOpen r (found o) ≡ false ⌝ }
+    requires { ⌜ notExecuted r (found o) ≡ false ⌝ }
+    ensures { λ p. ⌜ p ≡ planBy (r .event) i (o .figures) r ⌝ }
+{
+    let f = o.figures;
+    let event = r.event;
+    match event {
+        Event::Accepted => Plan::New,
+        Event::Executed(_) => Plan::Change(i, f.execute(r.contracts)),
+        Event::Cancelled => Plan::Change(i, f.cancel(r.contracts)),
+        Event::Broken(_) => Plan::Change(i, f.mark_broken(r.contracts)),
+        Event::Replaced => Plan::Replace(i, f.pass_on()),
+        Event::Repriced => Plan::Price(i, r.price),
+    }
+}

@@ -1,0 +1,123 @@
+// What the tests of a line ask: of its event, and of the order that it speaks of, by value.
+ghost use mathlib.Core.Path.{_≡_};
+ghost use lib.ListN.{length};
+ghost use Rattle.layout.specs.Line.{same};
+ghost use Rattle.order.specs.Figure.{Sound};
+ghost use Rattle.order.specs.Names.{sameSeries};
+ghost use Rattle.day.specs.History.{isNew, isMaker, isReplace};
+ghost use Rattle.day.specs.Machine.{found, differs as Machine·differs, notOpen, notExecuted};
+ghost use Rattle.day.specs.Refusals.{subject as Refusals·subject};
+use layout::Event;
+use layout::Record;
+use order::Key;
+use order::Order;
+use order::Series;
+
+pub fn is_new(event: Event) -> bool
+    ensures { λ r. ⌜ r ≡ isNew event ⌝ }
+{
+    match event {
+        Event::Accepted => true,
+        Event::Executed(_) => false,
+        Event::Cancelled => false,
+        Event::Broken(_) => false,
+        Event::Replaced => false,
+        Event::Repriced => false,
+    }
+}
+
+pub fn is_maker(event: Event) -> bool
+    ensures { λ r. ⌜ r ≡ isMaker event ⌝ }
+{
+    match event {
+        Event::Accepted => true,
+        Event::Executed(_) => false,
+        Event::Cancelled => false,
+        Event::Broken(_) => false,
+        Event::Replaced => true,
+        Event::Repriced => false,
+    }
+}
+
+fn is_replace(event: Event) -> bool
+    ensures { λ r. ⌜ r ≡ isReplace event ⌝ }
+{
+    match event {
+        Event::Accepted => false,
+        Event::Executed(_) => false,
+        Event::Cancelled => false,
+        Event::Broken(_) => false,
+        Event::Replaced => true,
+        Event::Repriced => false,
+    }
+}
+
+// The key of the order that a line speaks of: for U, the elder.
+pub fn subject(r: Record) -> Key
+    ensures { λ k. ⌜ k ≡ Refusals·subject r ⌝ }
+{
+    let event = r.event;
+    if is_replace(event) {
+        return order::elder_key_of(r);
+    }
+    order::key_of(r)
+}
+
+// Two runs of one length.
+fn same_run(a: &[u8], b: &[u8]) -> bool
+    requires { ⌜ length (now a) ≡ length (now b) ⌝ }
+    ensures { λ r. ⌜ r ≡ same (now (a .entry)) (now (b .entry)) ⌝ }
+{
+    cell::same(a, 0, b)
+}
+
+fn same_series(a: Series, b: Series) -> bool
+    ensures { λ r. ⌜ r ≡ sameSeries a b ⌝ }
+{
+    let ours = a.root;
+    let theirs = b.root;
+    same_run(&ours, &theirs)
+        & (a.month == b.month)
+        & (a.date == b.date)
+        & (a.year == b.year)
+        & (a.denominator == b.denominator)
+        & (a.strike == b.strike)
+}
+
+pub fn differs(o: Order, r: Record) -> bool
+    ensures { λ x. ⌜ x ≡ Machine·differs r (found o) ⌝ }
+{
+    let series = o.series;
+    !((o.side == r.side) & same_series(series, order::series_of(r)))
+}
+
+pub fn not_open(o: Order, r: Record) -> bool
+    ensures { λ x. ⌜ x ≡ notOpen r (found o) ⌝ }
+{
+    let left = o.figures.open;
+    let event = r.event;
+    match event {
+        Event::Accepted => false,
+        Event::Executed(_) => left < r.contracts,
+        Event::Cancelled => left < r.contracts,
+        Event::Broken(_) => false,
+        Event::Replaced => left == 0,
+        Event::Repriced => left == 0,
+    }
+}
+
+pub fn not_executed(o: Order, r: Record) -> bool
+    requires { ⌜ Sound (o .figures) ⌝ }
+    ensures { λ x. ⌜ x ≡ notExecuted r (found o) ⌝ }
+{
+    let unbroken = o.figures.executed - o.figures.broken;
+    let event = r.event;
+    match event {
+        Event::Accepted => false,
+        Event::Executed(_) => false,
+        Event::Cancelled => false,
+        Event::Broken(_) => unbroken < r.contracts,
+        Event::Replaced => false,
+        Event::Repriced => false,
+    }
+}
