@@ -4,6 +4,7 @@ pub mod Holding
 pub mod Machine
 pub mod Planned
 pub mod Reached
+pub mod Refuted
 pub mod Sound
 pub mod Tested
-pub mod Whole
+pub mod There

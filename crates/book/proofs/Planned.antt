@@ -28,7 +28,7 @@ use Rattle.book.specs.Bytes.{changedAt, changed, appended, eventBytes}
 use Rattle.book.specs.Plans.{Inside, Plans, RoomFor, planBy, answerOf, afterPlan}
 use Rattle.book.specs.declared.Plan.{Plan}
 use Rattle.book.specs.declared.Plan.the-variants.{No, New}
-use Rattle.book.proofs.Whole.{free}
+use Rattle.book.proofs.There.{free}
 
 module _ (s : List ℕ) (r : Record) where
   refuses : (x : Refusal) → refusalOf (limitOf (length s)) (tableIn s) (line r) ≡ numberOf x → eqb (numberOf x) 0 ≡ false → fieldOf x ≡ 0

@@ -1,7 +1,7 @@
 -- What the tests of a line say of the order that it speaks of.
 use Prim.Native.Nat.{ℕ, _+_, _-_, _≤_}
 use native.Mathlib.Nat.{le-of-eq}
-use mathlib.Core.Path.{_≡_, sym, ap, ap₂, _∙_}
+use mathlib.Core.Path.{_≡_, ap}
 use mathlib.Core.Bool.{Bool, true, false, _&&_, or-false}
 use mathlib.Core.List.{List}
 use borrow.Author.Tests.{ltb-false}
@@ -11,9 +11,6 @@ use Rattle.layout.specs.declared.Trade.{Trade}
 use Rattle.order.specs.declared.Key.{Key}
 use Rattle.order.specs.declared.Order.{Order}
 use Rattle.day.specs.Machine.{found, find, isFound, place, notOpen, notExecuted}
-use Rattle.table.specs.Places.{placeNo}
-use Rattle.table.specs.Tables.{ordersIn}
-use Rattle.table.specs.declared.Place.{Place}
 use Rattle.table.proofs.Lookups.{at-found, nobody-found}
 use lib.ListN.{length}
 use lib.Seq.{take-all}
@@ -35,12 +32,6 @@ module _ (maker : Bool) (k : Key) (os : List Order) where
 
   pub maker-known : maker ≡ true → (i : ℕ) (none : Order) → place k os ≡ i + 1 → true ≡ (maker && isFound (find k os))
   maker-known e i none p = rw (e, at-found k os i none p .1)
-
--- ---- where a lookup found it
-
-pub place-is : (s : List ℕ) (p q : Place) (k l : Key) (n m : ℕ) → placeNo p ≡ place k (ordersIn 0 n s) → p ≡ q → k ≡ l → n ≡ m
-    → place l (ordersIn 0 m s) ≡ placeNo q
-place-is s p q k l n m e f g h = sym (ap₂ (λ x y. place x (ordersIn 0 y s)) g h) ∙ sym e ∙ ap placeNo f
 
 -- ---- what a test that failed leaves
 

@@ -1,3 +1,4 @@
 pub mod Bytes
 pub mod Plans
 pub mod Promises
+pub mod Wrong

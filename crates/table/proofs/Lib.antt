@@ -1,4 +1,6 @@
 pub mod Answers
+pub mod Asking
+pub mod Determined
 pub mod Fields
 pub mod Laws
 pub mod Limits
@@ -11,3 +13,4 @@ pub mod Runs
 pub mod Said
 pub mod Search
 pub mod Splits
+pub mod Whole

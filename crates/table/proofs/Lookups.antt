@@ -1,7 +1,7 @@
 -- What the place that a lookup answers says of the orders: which one is found, and which one a change by key changes.
 use Prim.Native.Nat.{ℕ, zero, suc, _+_, _<_}
 use native.Mathlib.Omega.{arith}
-use mathlib.Core.Path.{_≡_, refl}
+use mathlib.Core.Path.{_≡_, refl, sym, ap, ap₂, _∙_}
 use mathlib.Core.Bool.{Bool, true, false, cond}
 use mathlib.Core.List.{List, [], _∷_}
 use lib.ListN.{length, getD, set}
@@ -10,6 +10,9 @@ use Rattle.order.specs.declared.Key.{Key}
 use Rattle.order.specs.declared.Order.{Order}
 use Rattle.day.specs.History.{oneMore}
 use Rattle.day.specs.Machine.{nobody, found, find, place, amend}
+use Rattle.table.specs.Places.{placeNo}
+use Rattle.table.specs.Tables.{ordersIn}
+use Rattle.table.specs.declared.Place.{Place}
 
 -- the order at i is the earliest one with k
 data Earliest (k : Key) : List Order → ℕ → Type 0 where
@@ -58,3 +61,8 @@ nobody-found k (o ∷ os) e = go (sameKey (o .key) k) (place k os) (nobody-found
     go true p ih e = absurd (omega arith)
     go false zero ih e = ih refl
     go false (suc p) ih e = absurd (omega arith)
+
+-- the answer of a search for k among the first n, q being what it is known to be
+pub place-is : (s : List ℕ) (p q : Place) (k l : Key) (n m : ℕ) → placeNo p ≡ place k (ordersIn 0 n s) → p ≡ q → k ≡ l → n ≡ m
+    → place l (ordersIn 0 m s) ≡ placeNo q
+place-is s p q k l n m e f g h = sym (ap₂ (λ x y. place x (ordersIn 0 y s)) g h) ∙ sym e ∙ ap placeNo f

@@ -1,4 +1,4 @@
--- Making the empty table: each answer keeps the promise, the promise allows one outcome, and the table made is sound and empty.
+-- Making the empty table: each answer keeps the promise, and the table made is sound and empty.
 use Prim.Native.Nat.{ℕ, _<_, _≤_}
 use native.Mathlib.Omega.{arith}
 use mathlib.Core.Path.{_≡_, refl, sym, ap, _∙_}
@@ -9,14 +9,12 @@ use borrow.Author.Tests.{lt-ltb, le-ltb, eq-eqb, ne-eqb}
 use lib.ListN.{length, getD, replicate}
 use lib.Seq.{sets, length-sets}
 use Rattle.refusal.specs.declared.Refusal.the-variants.{NoRoom, Damaged}
-use Rattle.refusal.proofs.OneNumber.{one-refusal}
 use Rattle.cell.specs.Cells.{le}
 use Rattle.cell.proofs.Laws.{part-inside, part-whole, getD-part}
 use Rattle.layout.specs.Layout.{part}
 use Rattle.day.specs.Machine.{empty}
-use Rattle.table.specs.Promises.{madeOf, Makes}
+use Rattle.table.specs.Promises.{Makes}
 use Rattle.table.specs.Tables.{countIn, ordersIn, tableIn, sound}
-use Rattle.table.specs.declared.Made.{Made}
 use Rattle.table.specs.declared.Made.the-variants.{Done, Refused}
 
 -- ---- the three answers
@@ -35,17 +33,6 @@ made s after h k e =
     let long = le-ltb (length s) 40968 h in
     let same = eq-eqb (length s) 40968 (omega arith) in
     record { said = rw (long, same); out = rw (long, same) e }
-
--- ---- one outcome
-
-one-made : (x y : Made) → madeOf x ≡ madeOf y → x ≡ y
-one-made Done Done e = refl
-one-made Done (Refused r) e = let z : _≡_ {A = ℕ} 0 1 = cc in absurd (omega arith)
-one-made (Refused r) Done e = let z : _≡_ {A = ℕ} 0 1 = cc in absurd (omega arith)
-one-made (Refused r) (Refused q) e = ap Refused (one-refusal r q (cc) (cc))
-
-pub make-determined : {before : List ℕ} {x y : Made} {a b : List ℕ} → Makes before x a → Makes before y b → (x ≡ y) × (a ≡ b)
-make-determined {x = x} {y = y} p q = (one-made x y (p .said ∙ sym (q .said)), p .out ∙ sym (q .out))
 
 -- ---- the table made
 

@@ -3,7 +3,10 @@ use Prim.Native.Nat.{ℕ}
 use mathlib.Core.Path.{_≡_}
 use mathlib.Core.List.{List}
 use Rattle.refusal.specs.Answer.{Answer, value, refusedBy}
+use Rattle.table.specs.Entries.{lookUpAnswer, copyAnswer, copiedFrom}
 use Rattle.table.specs.Tables.{makeAnswer, madeFrom}
+use Rattle.table.specs.declared.Found.{Found}
+use Rattle.table.specs.declared.Found.the-variants.{At as FoundAt, Refused as NotFound}
 use Rattle.table.specs.declared.Made.{Made}
 use Rattle.table.specs.declared.Made.the-variants.{Done, Refused}
 
@@ -16,3 +19,17 @@ madeOf (Refused r) = refusedBy r
 pub record Makes (before : List ℕ) (x : Made) (after : List ℕ) : Type 0 where
   pub said : madeOf x ≡ makeAnswer before
   pub out : after ≡ madeFrom (makeAnswer before) before
+
+-- where an order was found in the paper's terms
+abbrev pub foundOf : Found → Answer ℕ
+foundOf (FoundAt i) = value i
+foundOf (NotFound r) = refusedBy r
+
+-- `table::look_up`
+pub record LooksUp (table key : List ℕ) (x : Found) : Type 0 where
+  pub said : foundOf x ≡ lookUpAnswer table key
+
+-- `table::copy_order`: `after` is the lent buffer when it returns
+pub record Copies (table : List ℕ) (i : ℕ) (before : List ℕ) (x : Made) (after : List ℕ) : Type 0 where
+  pub said : madeOf x ≡ copyAnswer table i before
+  pub out : after ≡ copiedFrom (copyAnswer table i before) table i before

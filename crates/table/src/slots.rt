@@ -70,7 +70,7 @@ fn series_in(b: &[u8]) -> Series
     }
 }
 
-fn figures_in(b: &[u8]) -> Figures
+pub fn figures_in(b: &[u8]) -> Figures
     requires { ⌜ length (now b) ≡ 80 ⌝ }
     ensures { λ r. ⌜ r ≡ figuresIn (now (b .entry)) ⌝ }
 {

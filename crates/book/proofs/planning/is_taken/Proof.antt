@@ -7,8 +7,9 @@ use denote.Ref.{now}
 use Rattle.table.specs.Slots.{orderIn}
 use Rattle.table.specs.Tables.{tableIn}
 use Rattle.order.specs.Names.{keyOf}
-use Rattle.book.proofs.Tested.{place-is, no-maker, maker-known, maker-unknown}
-use Rattle.book.proofs.Whole.{whole}
+use Rattle.table.proofs.Lookups.{place-is}
+use Rattle.book.proofs.Tested.{no-maker, maker-known, maker-unknown}
+use Rattle.table.proofs.Whole.{whole}
 use Rattle.book.proofs.planning.is_taken.Statement.{statement}
 use Rattle.book.proofs.planning.is_taken.Tie as tie
 

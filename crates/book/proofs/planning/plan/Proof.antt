@@ -3,7 +3,7 @@ use mathlib.Core.Path.{sym, _∙_}
 use borrow.Author.Tests.{not-true, not-false}
 use borrow.Author.Needs.{needs}
 use denote.Ref.{now}
-use Rattle.book.proofs.Whole.{whole}
+use Rattle.table.proofs.Whole.{whole}
 use Rattle.book.proofs.Planned.{day-over, known-key, full-of-new, new}
 use Rattle.book.proofs.planning.plan.Statement.{statement}
 use Rattle.book.proofs.planning.plan.Tie as tie

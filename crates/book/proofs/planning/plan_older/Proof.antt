@@ -9,9 +9,10 @@ use Rattle.table.specs.Tables.{tableIn, slot}
 use Rattle.day.specs.Refusals.{subject}
 use Rattle.day.specs.Machine.{place}
 use Rattle.book.proofs.Booked.{plan-is}
-use Rattle.book.proofs.Tested.{both-are, place-is}
-use Rattle.table.proofs.Lookups.{nobody-found}
-use Rattle.book.proofs.Whole.{There, whole, there}
+use Rattle.book.proofs.Tested.{both-are}
+use Rattle.table.proofs.Lookups.{nobody-found, place-is}
+use Rattle.book.proofs.There.{There, there}
+use Rattle.table.proofs.Whole.{whole}
 use Rattle.book.proofs.Planned.{unknown-key, other-series, not-open, not-executed, full, planned}
 use Rattle.book.proofs.planning.plan_older.Statement.{statement}
 use Rattle.book.proofs.planning.plan_older.Tie as tie

@@ -3,7 +3,7 @@ use mathlib.Core.Path.{sym, _∙_}
 use borrow.Author.Needs.{needs}
 use denote.Ref.{now}
 use Rattle.book.proofs.Booked.{over-before, over-now}
-use Rattle.book.proofs.Whole.{whole}
+use Rattle.table.proofs.Whole.{whole}
 use Rattle.book.proofs.store.book_end.Statement.{statement}
 use Rattle.book.proofs.store.book_end.Tie as tie
 

@@ -1,0 +1,87 @@
+-- `table::asked::copy_order` meets its contract.
+use Prim.Native.Nat.{_+_, _≤_}
+use mathlib.Core.Path.{sym, _∙_}
+use native.Mathlib.Omega.{arith}
+use borrow.Author.Tests.{not-true, not-false}
+use borrow.Author.Needs.{needs}
+use denote.Ref.{now}
+use lib.ListN.{length}
+use Rattle.table.specs.Tables.{slotAt}
+use Rattle.table.proofs.Asking.{uncopied, no-room, no-order, copied, slot-of}
+use Rattle.table.proofs.Whole.{whole}
+use Rattle.table.proofs.asked.copy_order.Statement.{statement}
+use Rattle.table.proofs.asked.copy_order.Tie as tie
+
+is-sound-requires : tie.Need-is-sound-requires
+is-sound-requires c κs = search needs
+
+returns : tie.Need-returns
+returns c =
+    let a = c .before .before .before .before .args in
+    uncopied (now (a .t)) (a .i) (now (a .out)) (sym (c .before .is-sound .ensures) ∙ not-true _ (c .if1 .taken))
+
+returns-2 : tie.Need-returns-2
+returns-2 c =
+    let a = c .before .before .before .before .before .args in
+    no-room (now (a .t)) (a .i) (now (a .out)) (sym (c .before .before .is-sound .ensures) ∙ not-false _ (c .before .if1 .left)) (search needs)
+
+count-requires : tie.Need-count-requires
+count-requires c κs = whole (now (c .before .before .before .before .before .args .t)) (sym (c .before .before .is-sound .ensures) ∙ not-false _ (c .before .if1 .left)) .header
+
+returns-3 : tie.Need-returns-3
+returns-3 c =
+    let a = c .before .before .before .before .before .before .before .args in
+    no-order (now (a .t)) (a .i) (now (a .out)) (sym (c .before .before .before .before .is-sound .ensures) ∙ not-false _ (c .before .before .before .if1 .left)) (search needs)
+    (omega (arith, c .before .count .ensures))
+
+inside : (c : tie.Else3) → slotAt (c .before .before .before .before .before .before .before .args .i) + 80 ≤ length (now (c .before .before .before .before .before .before .before .args .t))
+inside c = slot-of _ _ (sym (c .before .before .before .before .is-sound .ensures) ∙ not-false _ (c .before .before .before .if1 .left)) (omega (arith, c .before .count .ensures))
+
+mul-at : tie.Need-mul-at
+mul-at c = omega (arith, inside c)
+
+add-at : tie.Need-add-at
+add-at c = omega (arith, inside c)
+
+add-run : tie.Need-add-run
+add-run c = omega (arith, inside (c .before))
+
+sub-run : tie.Need-sub-run
+sub-run c = search needs
+
+part-run-start : tie.Need-part-run-start
+part-run-start c = search needs
+
+part-run-end : tie.Need-part-run-end
+part-run-end c = omega (arith, inside (c .before))
+
+run-requires : tie.Need-run-requires
+run-requires c κs = search needs
+
+same-length : tie.Need-same-length
+same-length c = search needs
+
+returns-4 : tie.Need-returns-4
+returns-4 c =
+    let a = c .before .before .before .before .before .before .before .before .before .before .before .before .args in
+    copied (now (a .t)) (a .i) (now (a .out)) (sym (c .before .before .before .before .before .before .before .before .before .is-sound .ensures) ∙ not-false _ (c .before .before .before .before .before .before .before .before .if1 .left)) (search needs)
+    (omega (arith, c .before .before .before .before .before .before .count .ensures)) _ (c .before .before .run .ensures)
+
+pub copy-order-spec : {M : Type 1} → statement M
+copy-order-spec =
+    tie.close
+    (tie.spec
+    is-sound-requires
+    returns
+    returns-2
+    count-requires
+    returns-3
+    mul-at
+    add-at
+    add-run
+    sub-run
+    part-run-start
+    part-run-end
+    run-requires
+    same-length
+    returns-4)

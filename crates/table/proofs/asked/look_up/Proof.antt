@@ -1,0 +1,89 @@
+-- `table::asked::look_up` meets its contract.
+use mathlib.Core.Path.{refl, sym, _∙_}
+use native.Mathlib.Omega.{arith}
+use borrow.Author.Tests.{not-true, not-false}
+use borrow.Author.Needs.{needs}
+use denote.Ref.{now}
+use Rattle.table.proofs.Asking.{unsearched, no-key, found-at, found-nowhere}
+use Rattle.table.proofs.Lookups.{place-is}
+use Rattle.table.proofs.Whole.{whole}
+use Rattle.table.proofs.asked.look_up.Statement.{statement}
+use Rattle.table.proofs.asked.look_up.Tie as tie
+
+is-sound-requires : tie.Need-is-sound-requires
+is-sound-requires c κs = search needs
+
+returns : tie.Need-returns
+returns c =
+    let a = c .before .before .before .before .args in
+    unsearched (now (a .t)) (now (a .key)) (sym (c .before .is-sound .ensures) ∙ not-true _ (c .if1 .taken))
+
+returns-2 : tie.Need-returns-2
+returns-2 c =
+    let a = c .before .before .before .before .before .args in
+    no-key (now (a .t)) (now (a .key)) (sym (c .before .before .is-sound .ensures) ∙ not-false _ (c .before .if1 .left)) (c .if2 .taken)
+
+count-requires : tie.Need-count-requires
+count-requires c κs = whole (now (c .before .before .before .before .before .args .t)) (sym (c .before .before .is-sound .ensures) ∙ not-false _ (c .before .if1 .left)) .header
+
+sub-find : tie.Need-sub-find
+sub-find c = search needs
+
+part-find-start : tie.Need-part-find-start
+part-find-start c = search needs
+
+part-find-end : tie.Need-part-find-end
+part-find-end c = search needs
+
+sub-find-2 : tie.Need-sub-find-2
+sub-find-2 c = search needs
+
+part-find-start-2 : tie.Need-part-find-start-2
+part-find-start-2 c = search needs
+
+part-find-end-2 : tie.Need-part-find-end-2
+part-find-end-2 c = search needs
+
+find-requires : tie.Need-find-requires
+find-requires c κs =
+    let a = c .before .before .before .before .before .before .before .before .args in
+    let w = whole (now (a .t)) (sym (c .before .before .before .before .before .is-sound .ensures) ∙ not-false _ (c .before .before .before .before .if1 .left)) in
+    (omega (arith, c .before .before .count .ensures, w .slots), (search needs, search needs))
+
+enum-known-i : tie.Need-enum-known-i
+enum-known-i c = search needs
+
+enum-told : tie.Need-enum-told
+enum-told c = search needs
+
+returns-3 : tie.Need-returns-3
+returns-3 c =
+    let a = c .before .before .before .before .before .before .before .before .before .before .before .before .args in
+    found-at (now (a .t)) (now (a .key)) (sym (c .before .before .before .before .before .before .before .before .before .is-sound .ensures) ∙ not-false _ (c .before .before .before .before .before .before .before .before .if1 .left)) (c .before .before .before .before .before .before .before .if2 .left) _
+    (place-is (now (a .t)) _ _ _ _ _ _ (c .before .before .before .find .ensures) (c .before .i .given .1) refl (c .before .before .before .before .before .before .count .ensures))
+
+returns-4 : tie.Need-returns-4
+returns-4 c =
+    let a = c .before .before .before .before .before .before .before .before .before .before .before .args in
+    found-nowhere (now (a .t)) (now (a .key)) (sym (c .before .before .before .before .before .before .before .before .is-sound .ensures) ∙ not-false _ (c .before .before .before .before .before .before .before .if1 .left)) (c .before .before .before .before .before .before .if2 .left)
+    (place-is (now (a .t)) _ _ _ _ _ _ (c .before .before .find .ensures) (c .enum-told .given .1) refl (c .before .before .before .before .before .count .ensures))
+
+pub look-up-spec : {M : Type 1} → statement M
+look-up-spec =
+    tie.close
+    (tie.spec
+    is-sound-requires
+    returns
+    returns-2
+    count-requires
+    sub-find
+    part-find-start
+    part-find-end
+    sub-find-2
+    part-find-start-2
+    part-find-end-2
+    find-requires
+    enum-known-i
+    enum-told
+    returns-3
+    returns-4)
