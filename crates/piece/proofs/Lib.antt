@@ -1,0 +1,4 @@
+pub mod Begun
+pub mod Cutting
+pub mod Firsts
+pub mod Lengths

@@ -1,0 +1,3 @@
+pub mod Apart
+pub mod Given
+pub mod Standing
