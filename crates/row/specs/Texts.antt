@@ -1,0 +1,63 @@
+-- 01, The sheet: the heading and a row, as the bytes of a text.
+use Prim.Native.Nat.{ℕ, zero, suc, _+_, _/_, _%_}
+use mathlib.Core.Bool.{cond}
+use mathlib.Core.List.{List, [], _∷_, _++_}
+use lib.Dec.{ltb, eqb}
+use Rattle.order.specs.declared.Figures.{Figures}
+use Rattle.order.specs.declared.Order.{Order}
+
+-- at most w digits of a number
+abbrev pub decimalIn : ℕ → ℕ → List ℕ
+decimalIn zero n = []
+decimalIn (suc w) n = cond (ltb n 10) ((48 + n) ∷ []) (decimalIn w (n / 10) ++ ((48 + n % 10) ∷ []))
+
+-- "Numbers have no fill." Twenty digits hold every number of 64 bits
+abbrev pub decimal : ℕ → List ℕ
+decimal n = decimalIn 20 n
+
+-- a byte in front of what is left of a run; a space in front of nothing is padding
+abbrev pub before : ℕ → List ℕ → List ℕ
+before b [] = cond (eqb b 32) [] (b ∷ [])
+before b (c ∷ s) = b ∷ c ∷ s
+
+-- "the token without its padding": without the spaces on its right
+abbrev pub trimmed : List ℕ → List ℕ
+trimmed [] = []
+trimmed (b ∷ s) = before b (trimmed s)
+
+-- "orders "
+abbrev pub ordersWord : List ℕ
+ordersWord = 111 ∷ 114 ∷ 100 ∷ 101 ∷ 114 ∷ 115 ∷ 32 ∷ []
+
+-- " families "
+abbrev pub familiesWord : List ℕ
+familiesWord = 32 ∷ 102 ∷ 97 ∷ 109 ∷ 105 ∷ 108 ∷ 105 ∷ 101 ∷ 115 ∷ 32 ∷ []
+
+-- "First comes `orders N families F`"
+abbrev pub heading : ℕ → ℕ → List ℕ
+heading n f = ordersWord ++ decimal n ++ familiesWord ++ decimal f ++ (10 ∷ [])
+
+-- "family and place in it joined by a dot"
+abbrev pub rankText : ℕ → ℕ → List ℕ
+rankText family rank = decimal family ++ (46 ∷ decimal rank)
+
+-- "one space between"
+abbrev pub column : List ℕ → List ℕ
+column s = 32 ∷ s
+
+-- "size, executed, broken"
+abbrev pub tradedText : Figures → List ℕ
+tradedText f = column (decimal (f .size)) ++ column (decimal (f .executed)) ++ column (decimal (f .broken))
+
+-- "cancelled, passed on, open"
+abbrev pub figuresText : Figures → List ℕ
+figuresText f =
+    tradedText f ++ column (decimal (f .cancelled)) ++ column (decimal (f .passed)) ++ column (decimal (f .«open»))
+
+-- "the six Source bytes, the token without its padding; .. LF at the end"
+abbrev pub namesText : (source token : List ℕ) → List ℕ
+namesText source token = column source ++ column (trimmed token) ++ (10 ∷ [])
+
+-- "Each row"
+abbrev pub rowText : ℕ → ℕ → Order → List ℕ
+rowText family rank o = rankText family rank ++ figuresText (o .figures) ++ namesText (o .key .source) (o .key .token)
