@@ -67,7 +67,7 @@ drop-sets l [] at i h = refl
 drop-sets l (x ∷ xs) at i h = drop-sets (set l at x) xs (suc at) i (omega arith) ∙ drop-set-lt i l at x (omega arith)
 
 -- a run of stores past the first k is one into the rest
-rest-sets : (l xs : List ℕ) (k at : ℕ) → drop k (sets l (k + at) xs) ≡ sets (drop k l) at xs
+pub rest-sets : (l xs : List ℕ) (k at : ℕ) → drop k (sets l (k + at) xs) ≡ sets (drop k l) at xs
 rest-sets l [] k at = refl
 rest-sets l (x ∷ xs) k at = rw (← add-suc k at, rest-sets (set l (k + at) x) xs k (suc at), drop-set-add)
 

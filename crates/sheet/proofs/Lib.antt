@@ -1,0 +1,11 @@
+pub mod Answering
+pub mod Bound
+pub mod Determined
+pub mod Fitting
+pub mod Headings
+pub mod Joining
+pub mod Refuted
+pub mod Seeking
+pub mod Stepping
+pub mod Turning
+pub mod Witnesses

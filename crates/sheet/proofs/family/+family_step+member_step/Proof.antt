@@ -1,0 +1,262 @@
+-- `sheet::family`'s two steps meet their contracts: a row, then the text behind it. The measure is twice the rows left, plus 1 for the family step.
+use Prim.Native.Nat.{ℕ, _+_, _*_, _<_}
+use native.Mathlib.Omega.{arith}
+use mathlib.Core.Path.{refl, ap}
+use borrow.Author.Needs.{needs}
+use borrow.Fn.Kinds.{In}
+use borrow.Fn.PlainCycle.{Measures, is, falls, and}
+use denote.Ref.{now}
+use lib.ListN.{length}
+use Rattle.row.proofs.write.Reads as write-reads
+use Rattle.sheet.specs.Walk.{eldersIn, familiesFrom, familiesText, membersText, rowsFrom}
+use Rattle.sheet.proofs.Joining.{keeps-length}
+use Rattle.sheet.proofs.Seeking.{length-elders-in}
+use Rattle.sheet.proofs.Stepping.{both-texts, family-text, last-text, no-text, row-inside, row-room, text-room, younger-text}
+use Rattle.sheet.proofs.Turning.{turn, family-rows, first-stands, last-rows, younger-rows, younger-stands}
+use Rattle.sheet.proofs.family.family_step.Reads as family-step
+use Rattle.sheet.proofs.family.family_step.Kinds as family-step-kinds
+use Rattle.sheet.proofs.family.+family_step+member_step.Lts-family_step as family-step-lts
+use Rattle.sheet.proofs.family.member_step.Reads as member-step
+use Rattle.sheet.proofs.family.member_step.Kinds as member-step-kinds
+use Rattle.sheet.proofs.family.+family_step+member_step.Lts-member_step as member-step-lts
+use Rattle.sheet.proofs.family.+family_step+member_step.{statement}
+use Rattle.sheet.proofs.family.+family_step+member_step.Tie.{close}
+use Rattle.sheet.proofs.walk.seek.Reads as seek-reads
+
+abbrev μ-family-step : Measures 2 family-step-kinds.ps ℕ
+μ-family-step κs a = length (familiesFrom (eldersIn (a .1 .0) (a .0 .now)) (a .1 .1 .0) (a .1 .1 .1 .0)) * 2 + 1
+
+abbrev μ-member-step : Measures 2 member-step-kinds.ps ℕ
+μ-member-step κs a = length (rowsFrom (eldersIn (a .1 .0) (a .0 .now)) (a .1 .1 .0)) * 2
+
+-- what each is given at the measure t, and what a call of it asks below t
+abbrev family-step-at : ℕ → In 2 family-step-kinds.ps
+family-step-at t = and 2 family-step-kinds.ps (is 2 family-step-kinds.ps μ-family-step t) family-step.Pre
+
+abbrev family-step-below : ℕ → In 2 family-step-kinds.ps
+family-step-below t = and 2 family-step-kinds.ps (falls 2 family-step-kinds.ps _<_ μ-family-step t) family-step.Pre
+
+abbrev member-step-at : ℕ → In 2 member-step-kinds.ps
+member-step-at t = and 2 member-step-kinds.ps (is 2 member-step-kinds.ps μ-member-step t) member-step.Pre
+
+abbrev member-step-below : ℕ → In 2 member-step-kinds.ps
+member-step-below t = and 2 member-step-kinds.ps (falls 2 member-step-kinds.ps _<_ μ-member-step t) member-step.Pre
+
+-- what the calls of each ask and give
+abbrev family-calls : ℕ → family-step-lts.Claims
+family-calls t = (seek-reads.Asked, seek-reads.Learnt, member-step-below t, member-step.Post)
+
+abbrev member-calls : ℕ → member-step-lts.Claims
+member-calls t = (
+  write-reads.Asked,
+  write-reads.Learnt,
+  seek-reads.Asked,
+  seek-reads.Learnt,
+  member-step-below t,
+  member-step.Post,
+  family-step-below t,
+  family-step.Post,
+)
+
+family-step-seek-requires : (t : ℕ) → family-step-lts.Need-seek-requires (family-calls t) (family-step-at t) family-step.Post
+family-step-seek-requires t c κs = search needs
+
+family-step-returns : (t : ℕ) → family-step-lts.Need-returns (family-calls t) (family-step-at t) family-step.Post
+family-step-returns t c =
+    let a = c .before .before .before .before .args in
+    let q = c .before .seek in
+    rw (no-text (a .n) (now (a .t)) (a .family) (a .from) (q .result) (q .ensures) (c .if1 .taken)) (record { long = refl; out = refl })
+
+family-step-member-step-requires : (t : ℕ) → family-step-lts.Need-member-step-requires (family-calls t) (family-step-at t) family-step.Post
+family-step-member-step-requires t c κs =
+    let m = c .before .before .before .before .before in
+    let a = m .args in
+    let es = eldersIn (a .n) (now (a .t)) in
+    let q = c .before .before .seek in
+    let h : q .result < a .n = c .before .if1 .left in
+    let rows = family-rows es (a .n) (length-elders-in (a .n) (now (a .t))) (a .family) (a .from) (q .result) (q .ensures) h in
+    let text = family-text (a .n) (now (a .t)) (a .family) (a .from) (q .result) (q .ensures) h in
+    let stands = first-stands (a .n) (a .family) (a .from) (q .result) es (m .pre .1 .1 .1 .0) (q .ensures) h in
+    (omega (arith, ap length rows, m .pre .0), (m .pre .1 .0, (stands, rw text (m .pre .1 .1 .1 .1))))
+
+family-step-same-length : (t : ℕ) → family-step-lts.Need-same-length (family-calls t) (family-step-at t) family-step.Post
+family-step-same-length t c = c .before .before .member-step .kept .1 .1 .1 .0
+
+family-step-returns-2 : (t : ℕ) → family-step-lts.Need-returns-2 (family-calls t) (family-step-at t) family-step.Post
+family-step-returns-2 t c =
+    let a = c .before .before .before .before .before .before .before .before .args in
+    let q = c .before .before .before .before .before .seek in
+    let h = c .before .before .before .before .if1 .left in
+    rw (family-text (a .n) (now (a .t)) (a .family) (a .from) (q .result) (q .ensures) h) at (c .before .before .member-step .ensures)
+
+member-step-write-requires : (t : ℕ) → member-step-lts.Need-write-requires (member-calls t) (member-step-at t) member-step.Post
+member-step-write-requires t c κs =
+    let m = c .before .before .before in
+    let a = m .args in
+    (omega (arith, m .pre .1 .0, m .pre .1 .1 .0), row-room (a .n) (now (a .t)) (a .x) (now (a .out)) (m .pre .1 .1 .0) (m .pre .1 .1 .1))
+
+member-step-add-seek : (t : ℕ) → member-step-lts.Need-add-seek (member-calls t) (member-step-at t) member-step.Post
+member-step-add-seek t c =
+    let m = c .before .before .before .before .before .before .before in
+    omega (arith, m .pre .1, m .good .0)
+
+member-step-add-seek-2 : (t : ℕ) → member-step-lts.Need-add-seek-2 (member-calls t) (member-step-at t) member-step.Post
+member-step-add-seek-2 t c =
+    let m = c .before .before .before .before .before .before .before in
+    omega (arith, m .pre .1, m .good .0)
+
+member-step-seek-requires : (t : ℕ) → member-step-lts.Need-seek-requires (member-calls t) (member-step-at t) member-step.Post
+member-step-seek-requires t c κs = omega (arith, c .before .before .before .before .before .before .before .pre .1)
+
+member-step-add-t14 : (t : ℕ) → member-step-lts.Need-add-t14 (member-calls t) (member-step-at t) member-step.Post
+member-step-add-t14 t c =
+    let m = c .before .before .before .before .before .before .before .before .before .before in
+    omega (arith, m .pre .1, m .good .0)
+
+member-step-sub-member-step : (t : ℕ) → member-step-lts.Need-sub-member-step (member-calls t) (member-step-at t) member-step.Post
+member-step-sub-member-step t c =
+    let m = c .before .before .before .before .before .before .before .before .before .before in
+    let a = m .args in
+    row-inside (a .n) (now (a .t)) (a .x) (now (a .out)) (m .pre .1 .1 .0) (m .pre .1 .1 .1) (c .before .before .before .before .before .before .write .ensures)
+
+member-step-part-member-step-start : (t : ℕ) → member-step-lts.Need-part-member-step-start (member-calls t) (member-step-at t) member-step.Post
+member-step-part-member-step-start t c =
+    let m = c .before .before .before .before .before .before .before .before .before .before in
+    let a = m .args in
+    row-inside (a .n) (now (a .t)) (a .x) (now (a .out)) (m .pre .1 .1 .0) (m .pre .1 .1 .1) (c .before .before .before .before .before .before .write .ensures)
+
+member-step-part-member-step-end : (t : ℕ) → member-step-lts.Need-part-member-step-end (member-calls t) (member-step-at t) member-step.Post
+member-step-part-member-step-end t c = search needs
+
+member-step-member-step-requires : (t : ℕ) → member-step-lts.Need-member-step-requires (member-calls t) (member-step-at t) member-step.Post
+member-step-member-step-requires t c κs =
+    let m = c .before .before .before .before .before .before .before .before .before .before .before in
+    let a = m .args in
+    let es = eldersIn (a .n) (now (a .t)) in
+    let w = c .before .before .before .before .before .before .before .write in
+    let y = c .before .before .before .seek in
+    let h = c .before .before .if1 .taken in
+    let rows = younger-rows es (a .n) (length-elders-in (a .n) (now (a .t))) (a .x) (y .result) (y .ensures) h in
+    let text = younger-text (a .n) (now (a .t)) (a .x) (y .result) (y .ensures) h in
+    let stands = younger-stands (a .n) es (a .x) (y .result) (m .pre .1 .1 .0) (y .ensures) h in
+    let room = text-room (a .n) (now (a .t)) (a .x) (now (a .out)) (m .pre .1 .1 .0) (m .pre .1 .1 .1) (w .ensures)
+    (membersText (a .n) (now (a .t)) (turn (a .x .root) (y .result) (a .x .family) (a .x .rank + 1))) text in
+    (omega (arith, ap length rows, m .pre .0), (m .pre .1 .0, (stands, room)))
+
+-- the row and the text behind it are all of the text
+younger-written : (t : ℕ) → member-step-lts.Need-returns (member-calls t) (member-step-at t) member-step.Post
+younger-written t c =
+    let m = c .before .before .before .before .before .before .before .before .before .before .before .before .before .before in
+    let a = m .args in
+    let w = c .before .before .before .before .before .before .before .before .before .before .write in
+    let y = c .before .before .before .before .before .before .seek in
+    let h = c .before .before .before .before .before .if1 .taken in
+    both-texts (a .n) (now (a .t)) (a .x) (now (a .out)) (m .pre .1 .1 .0) (m .pre .1 .1 .1) (w .ensures)
+    (membersText (a .n) (now (a .t)) (turn (a .x .root) (y .result) (a .x .family) (a .x .rank + 1))) (younger-text (a .n) (now (a .t)) (a .x) (y .result) (y .ensures) h)
+    (c .before .before .member-step .ensures)
+
+member-step-add-result : (t : ℕ) → member-step-lts.Need-add-result (member-calls t) (member-step-at t) member-step.Post
+member-step-add-result t c =
+    let m = c .before .before .before .before .before .before .before .before .before .before .before .before .before .before in
+    omega (arith, younger-written t c .long, m .pre .1 .1 .1, m .good .1 .1 .1 .0 .0)
+
+member-step-same-length : (t : ℕ) → member-step-lts.Need-same-length (member-calls t) (member-step-at t) member-step.Post
+member-step-same-length t c = keeps-length (younger-written t c)
+
+member-step-returns : (t : ℕ) → member-step-lts.Need-returns (member-calls t) (member-step-at t) member-step.Post
+member-step-returns t c = younger-written t c
+
+member-step-add-family-step : (t : ℕ) → member-step-lts.Need-add-family-step (member-calls t) (member-step-at t) member-step.Post
+member-step-add-family-step t c =
+    let m = c .before .before .before .before .before .before .before .before .before .before in
+    omega (arith, m .pre .1, m .good .0)
+
+member-step-add-family-step-2 : (t : ℕ) → member-step-lts.Need-add-family-step-2 (member-calls t) (member-step-at t) member-step.Post
+member-step-add-family-step-2 t c =
+    let m = c .before .before .before .before .before .before .before .before .before .before .before in
+    omega (arith, m .pre .1, m .good .0)
+
+member-step-sub-family-step : (t : ℕ) → member-step-lts.Need-sub-family-step (member-calls t) (member-step-at t) member-step.Post
+member-step-sub-family-step t c =
+    let m = c .before .before .before .before .before .before .before .before .before .before .before in
+    let a = m .args in
+    row-inside (a .n) (now (a .t)) (a .x) (now (a .out)) (m .pre .1 .1 .0) (m .pre .1 .1 .1) (c .before .before .before .before .before .before .before .write .ensures)
+
+member-step-part-family-step-start : (t : ℕ) → member-step-lts.Need-part-family-step-start (member-calls t) (member-step-at t) member-step.Post
+member-step-part-family-step-start t c =
+    let m = c .before .before .before .before .before .before .before .before .before .before .before in
+    let a = m .args in
+    row-inside (a .n) (now (a .t)) (a .x) (now (a .out)) (m .pre .1 .1 .0) (m .pre .1 .1 .1) (c .before .before .before .before .before .before .before .write .ensures)
+
+member-step-part-family-step-end : (t : ℕ) → member-step-lts.Need-part-family-step-end (member-calls t) (member-step-at t) member-step.Post
+member-step-part-family-step-end t c = search needs
+
+member-step-family-step-requires : (t : ℕ) → member-step-lts.Need-family-step-requires (member-calls t) (member-step-at t) member-step.Post
+member-step-family-step-requires t c κs =
+    let m = c .before .before .before .before .before .before .before .before .before .before .before .before in
+    let a = m .args in
+    let w = c .before .before .before .before .before .before .before .before .write in
+    let y = c .before .before .before .before .seek in
+    let h = c .before .before .before .if1 .left in
+    let rows = last-rows (eldersIn (a .n) (now (a .t))) (a .n) (length-elders-in (a .n) (now (a .t))) (a .x) (y .result) (y .ensures) h in
+    let text = last-text (a .n) (now (a .t)) (a .x) (y .result) (y .ensures) h in
+    let room = text-room (a .n) (now (a .t)) (a .x) (now (a .out)) (m .pre .1 .1 .0) (m .pre .1 .1 .1) (w .ensures)
+    (familiesText (a .n) (now (a .t)) (a .x .root + 1) (a .x .family + 1)) text in
+    (omega (arith, ap length rows, m .pre .0), (m .pre .1 .0, (omega (arith, m .pre .1 .1 .0), (omega (arith, m .pre .1 .1 .0), room))))
+
+-- the row and the text behind it are all of the text
+last-written : (t : ℕ) → member-step-lts.Need-returns-2 (member-calls t) (member-step-at t) member-step.Post
+last-written t c =
+    let m = c .before .before .before .before .before .before .before .before .before .before .before .before .before .before .before in
+    let a = m .args in
+    let w = c .before .before .before .before .before .before .before .before .before .before .before .write in
+    let y = c .before .before .before .before .before .before .before .seek in
+    let h = c .before .before .before .before .before .before .if1 .left in
+    both-texts (a .n) (now (a .t)) (a .x) (now (a .out)) (m .pre .1 .1 .0) (m .pre .1 .1 .1) (w .ensures)
+    (familiesText (a .n) (now (a .t)) (a .x .root + 1) (a .x .family + 1)) (last-text (a .n) (now (a .t)) (a .x) (y .result) (y .ensures) h)
+    (c .before .before .family-step .ensures)
+
+member-step-add-result-2 : (t : ℕ) → member-step-lts.Need-add-result-2 (member-calls t) (member-step-at t) member-step.Post
+member-step-add-result-2 t c =
+    let m = c .before .before .before .before .before .before .before .before .before .before .before .before .before .before .before in
+    omega (arith, last-written t c .long, m .pre .1 .1 .1, m .good .1 .1 .1 .0 .0)
+
+member-step-same-length-2 : (t : ℕ) → member-step-lts.Need-same-length-2 (member-calls t) (member-step-at t) member-step.Post
+member-step-same-length-2 t c = keeps-length (last-written t c)
+
+member-step-returns-2 : (t : ℕ) → member-step-lts.Need-returns-2 (member-calls t) (member-step-at t) member-step.Post
+member-step-returns-2 t c = last-written t c
+
+pub +family-step+member-step-spec : {M : Type 1} → statement M
++family-step+member-step-spec =
+    close μ-family-step μ-member-step
+    (λ t.
+    family-step-lts.spec (family-calls t) (family-step-at t) family-step.Post
+    (family-step-seek-requires t)
+    (family-step-returns t)
+    (family-step-member-step-requires t)
+    (family-step-same-length t)
+    (family-step-returns-2 t))
+    (λ t.
+    member-step-lts.spec (member-calls t) (member-step-at t) member-step.Post
+    (member-step-write-requires t)
+    (member-step-add-seek t)
+    (member-step-add-seek-2 t)
+    (member-step-seek-requires t)
+    (member-step-add-t14 t)
+    (member-step-sub-member-step t)
+    (member-step-part-member-step-start t)
+    (member-step-part-member-step-end t)
+    (member-step-member-step-requires t)
+    (member-step-add-result t)
+    (member-step-same-length t)
+    (member-step-returns t)
+    (member-step-add-family-step t)
+    (member-step-add-family-step-2 t)
+    (member-step-sub-family-step t)
+    (member-step-part-family-step-start t)
+    (member-step-part-family-step-end t)
+    (member-step-family-step-requires t)
+    (member-step-add-result-2 t)
+    (member-step-same-length-2 t)
+    (member-step-returns-2 t))

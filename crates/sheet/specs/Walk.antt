@@ -1,0 +1,51 @@
+-- The listing as it is walked: where the walk stands, and the rows that are left from there.
+use Prim.Native.Nat.{ℕ, _+_, _≤_, _<_}
+use mathlib.Core.Bool.{cond}
+use mathlib.Core.List.{List, [], _∷_, _++_}
+use lib.Dec.{ltb, eqb}
+use lib.ListN.{drop}
+use Rattle.day.specs.Damage.{eldersOf}
+use Rattle.day.specs.Listing.{Row, row, below, families}
+use Rattle.table.specs.Tables.{ordersIn}
+use Rattle.sheet.specs.Texts.{rowsText}
+use Rattle.sheet.specs.declared.Turn.{Turn}
+
+-- the elders of the first n orders
+abbrev pub eldersIn : ℕ → List ℕ → List ℕ
+eldersIn n s = eldersOf (ordersIn 0 n s)
+
+-- the first place from j on whose order has the elder e, or the place behind the last
+abbrev pub seek : ℕ → ℕ → List ℕ → ℕ
+seek e j [] = j
+seek e j (x ∷ es) = cond (eqb x e) j (seek e (j + 1) es)
+
+-- families from place i on, the first of them numbered f
+abbrev pub familiesFrom : List ℕ → ℕ → ℕ → List Row
+familiesFrom es i f = families f i (drop i es)
+
+-- below the row where the walk stands, and the families behind
+abbrev pub rowsBehind : List ℕ → Turn → List Row
+rowsBehind es x =
+    below (x .family) (x .rank) (x .place) (x .place + 1) (drop (x .place + 1) es) ++ familiesFrom es (x .root + 1) (x .family + 1)
+
+-- from the row where the walk stands on
+abbrev pub rowsFrom : List ℕ → Turn → List Row
+rowsFrom es x = row (x .family) (x .rank) (x .place) ∷ rowsBehind es x
+
+-- and none where it stands behind the last of n orders
+abbrev pub rowsLeft : ℕ → List ℕ → Turn → List Row
+rowsLeft n es x = cond (ltb (x .place) n) (rowsFrom es x) []
+
+-- as text, of the first n orders
+abbrev pub membersText : ℕ → List ℕ → Turn → List ℕ
+membersText n s x = rowsText (ordersIn 0 n s) (rowsFrom (eldersIn n s) x)
+
+abbrev pub familiesText : ℕ → List ℕ → ℕ → ℕ → List ℕ
+familiesText n s i f = rowsText (ordersIn 0 n s) (familiesFrom (eldersIn n s) i f)
+
+-- a turn among n orders
+pub record Stands (n : ℕ) (x : Turn) : Type 0 where
+  pub inside : x .place < n
+  pub below-root : x .root ≤ x .place
+  pub numbered : x .family ≤ x .root + 1
+  pub ranked : x .rank ≤ x .place + 1

@@ -1,0 +1,57 @@
+// The family sheet, written into a lent buffer from a lent table.
+ghost use mathlib.Core.Path.{_≡_};
+ghost use mathlib.Core.Bool.{true};
+ghost use Rattle.table.specs.Tables.{sound};
+ghost use Rattle.sheet.specs.Promises.{Sheets};
+
+mod family;
+mod room;
+mod walk;
+
+use refusal::Refusal;
+use row::heading;
+use table::damage;
+use table::slots;
+
+// The answer: how many bytes were written.
+pub enum Writing {
+    Done(usize),
+    Refused(Refusal),
+}
+
+// Where the walk over the orders stands: the first order of the family, the order whose row is next, and the two numbers of that row.
+struct Turn {
+    root: usize,
+    place: usize,
+    family: u64,
+    rank: u64,
+}
+
+// Any bytes for a table, any buffer. On a refusal not one byte is changed.
+pub fn write(t: &[u8], out: &mut [u8]) -> Writing
+    ensures { λ x. ⌜ Sheets (now (t .entry)) (now (out .entry)) x (now (out .exit)) ⌝ }
+{
+    if !damage::is_sound(t) {
+        return Writing::Refused(Refusal::Damaged);
+    }
+    write_sound(t, out)
+}
+
+// For a caller that holds the table sound by proof: the same promise, and no damage check is paid.
+pub fn write_sound(t: &[u8], out: &mut [u8]) -> Writing
+    requires { ⌜ sound (now t) ≡ true ⌝ }
+    ensures { λ x. ⌜ Sheets (now (t .entry)) (now (out .entry)) x (now (out .exit)) ⌝ }
+{
+    let n = slots::count(t) as usize;
+    let families = walk::count_roots(t, n);
+    let head = heading::length(n as u64, families);
+    if out.len() < head {
+        return Writing::Refused(Refusal::NoRoom);
+    }
+    if !room::rows_fit(t, n, out.len() - head) {
+        return Writing::Refused(Refusal::NoRoom);
+    }
+    let wrote = heading::write(n as u64, families, out);
+    let rows = family::family_step(t, n, 0, 1, &mut out[wrote..]);
+    Writing::Done(wrote + rows)
+}

@@ -1,0 +1,80 @@
+// The walk over the orders of a table: down a family to its youngest order, then over to the next family.
+ghost use Prim.Native.Nat.{_≤_, _<_};
+ghost use mathlib.Core.Path.{_≡_};
+ghost use lib.ListN.{length, drop};
+ghost use Rattle.day.specs.Listing.{families, rootCount};
+ghost use Rattle.table.specs.Tables.{slotAt};
+ghost use Rattle.sheet.specs.Walk.{Stands, eldersIn, rowsBehind, rowsLeft, seek as Walk·seek};
+use crate::Turn;
+
+// The first of n orders, from a place on, that has the elder e (1 is the first order, 0 is none), or n. A younger order is always later.
+pub fn seek(t: &[u8], n: usize, from: usize, e: u64) -> usize
+    requires { ⌜ slotAt n ≤ length (now t) ⌝ }
+    requires { ⌜ from ≤ n ⌝ }
+    ensures { λ r. ⌜ r ≡ Walk·seek e from (drop from (eldersIn n (now (t .entry)))) ⌝ }
+{
+    let mut i = from;
+    while i < n {
+        if cell::get(t, 8 + 80 * i + 49, 2) == e {
+            return i;
+        }
+        i += 1;
+    }
+    n
+}
+
+// How many of n orders have no elder.
+pub fn count_roots(t: &[u8], n: usize) -> u64
+    requires { ⌜ slotAt n ≤ length (now t) ⌝ }
+    ensures { λ r. ⌜ r ≡ rootCount (eldersIn n (now (t .entry))) ⌝ }
+{
+    let mut roots = 0;
+    let mut i = 0;
+    while i < n {
+        if cell::get(t, 8 + 80 * i + 49, 2) == 0 {
+            roots += 1;
+        }
+        i += 1;
+    }
+    roots
+}
+
+// Where the walk starts: at the first order that has no elder.
+pub fn start(t: &[u8], n: usize) -> Turn
+    requires { ⌜ slotAt n ≤ length (now t) ⌝ }
+    ensures { λ x. ⌜ rowsLeft n (eldersIn n (now (t .entry))) x ≡ families 1 0 (eldersIn n (now (t .entry))) ⌝ }
+    ensures { λ x. ⌜ (x .place < n → Stands n x) ⌝ }
+{
+    let root = seek(t, n, 0, 0);
+    Turn {
+        root,
+        place: root,
+        family: 1,
+        rank: 1,
+    }
+}
+
+// The turn behind a row.
+pub fn next(t: &[u8], n: usize, x: Turn) -> Turn
+    requires { ⌜ slotAt n ≤ length (now t) ⌝ }
+    requires { ⌜ Stands n x ⌝ }
+    ensures { λ y. ⌜ rowsLeft n (eldersIn n (now (t .entry))) y ≡ rowsBehind (eldersIn n (now (t .entry))) x ⌝ }
+    ensures { λ y. ⌜ (y .place < n → Stands n y) ⌝ }
+{
+    let younger = seek(t, n, x.place + 1, x.place as u64 + 1);
+    if younger < n {
+        return Turn {
+            root: x.root,
+            place: younger,
+            family: x.family,
+            rank: x.rank + 1,
+        };
+    }
+    let root = seek(t, n, x.root + 1, 0);
+    Turn {
+        root,
+        place: root,
+        family: x.family + 1,
+        rank: 1,
+    }
+}
