@@ -1,4 +1,5 @@
 // The record of a line whose fields all keep their rules.
+ghost use Prim.Native.Nat.{_≤_};
 ghost use mathlib.Core.Path.{_≡_};
 ghost use lib.ListN.{length};
 ghost use Rattle.layout.specs.Records.{eventOf};
@@ -62,7 +63,7 @@ pub fn event_of(t: u8, trade: Trade) -> Event
 }
 
 fn parties(s: &[u8]) -> Parties
-    requires { ⌜ length (now s) ≡ 140 ⌝ }
+    requires { ⌜ 138 ≤ length (now s) ⌝ }
     ensures { λ r. ⌜ r ≡ partiesOf (now (s .entry)) ⌝ }
 {
     let mut firm = [0u8; 4];
@@ -82,7 +83,7 @@ fn parties(s: &[u8]) -> Parties
 }
 
 fn names(s: &[u8]) -> Names
-    requires { ⌜ length (now s) ≡ 140 ⌝ }
+    requires { ⌜ 138 ≤ length (now s) ⌝ }
     ensures { λ r. ⌜ r ≡ namesOf (now (s .entry)) ⌝ }
 {
     let mut source = [0u8; 6];
@@ -105,7 +106,7 @@ fn names(s: &[u8]) -> Names
 }
 
 fn event(s: &[u8], n: Numbers) -> Event
-    requires { ⌜ length (now s) ≡ 140 ⌝ }
+    requires { ⌜ 138 ≤ length (now s) ⌝ }
     ensures { λ r. ⌜ r ≡ eventFrom n (now (s .entry)) ⌝ }
 {
     let trade = Trade {
@@ -116,8 +117,9 @@ fn event(s: &[u8], n: Numbers) -> Event
     event_of(s[8], trade)
 }
 
+// Of a line or of its first 138 bytes.
 pub fn record_of(s: &[u8], n: Numbers) -> Record
-    requires { ⌜ length (now s) ≡ 140 ⌝ }
+    requires { ⌜ 138 ≤ length (now s) ⌝ }
     ensures { λ r. ⌜ r ≡ recordFrom n (now (s .entry)) ⌝ }
 {
     let capacity = s[13];

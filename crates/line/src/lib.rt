@@ -8,10 +8,13 @@ mod piece;
 mod strikes;
 mod times;
 
+pub use build::record_of;
+pub use event::trade_of;
 use layout::Clock;
 use layout::Record;
 use layout::Strike;
 pub use output::write;
+pub use pick::is_trade;
 pub use piece::read;
 use refusal::Refusal;
 pub use strikes::strike_form;
@@ -58,15 +61,15 @@ pub(crate) enum Check {
 }
 
 // The numbers of a line, as far as its fields were read; the rest is 0.
-pub(crate) struct Numbers {
-    pub(crate) timestamp: u64,
-    pub(crate) contracts: u64,
-    pub(crate) date: u64,
-    pub(crate) year: u64,
-    pub(crate) strike: u64,
-    pub(crate) price: u64,
-    pub(crate) match_id: u64,
-    pub(crate) cross_id: u64,
+pub struct Numbers {
+    pub timestamp: u64,
+    pub contracts: u64,
+    pub date: u64,
+    pub year: u64,
+    pub strike: u64,
+    pub price: u64,
+    pub match_id: u64,
+    pub cross_id: u64,
 }
 
 // The runs of a line are copied in two lots: a function that makes all nine has more facts than the prover reads.

@@ -1,0 +1,9 @@
+pub mod Answered
+pub mod Back
+pub mod Cells
+pub mod Determined
+pub mod Odd
+pub mod Readings
+pub mod Rows
+pub mod Stores
+pub mod Writings

@@ -1,0 +1,69 @@
+-- docs/LAYOUT.md, A record: the bytes as which a record crosses to a host and back.
+use Prim.Native.Nat.{ℕ, _+_}
+use mathlib.Core.Bool.{Bool, cond, not, _&&_, _||_}
+use mathlib.Core.List.{List}
+use lib.Dec.{eqb}
+use lib.ListN.{length, getD, take}
+use lib.Seq.{sets}
+use Rattle.cell.specs.Cells.{le, leBytes, isZero}
+use Rattle.field.specs.Byte.{all}
+use Rattle.field.specs.Kept.{member}
+use Rattle.layout.specs.Layout.{part, types}
+use Rattle.layout.specs.Line.{lineOf}
+use Rattle.layout.specs.declared.Record.{Record}
+use Rattle.layout.specs.declared.Trade.{Trade}
+use Rattle.line.specs.Groups.{isTrade, recordFrom}
+use Rattle.line.specs.Writes.{tradeOf}
+use Rattle.line.specs.declared.Numbers.{Numbers}
+
+-- each number stands at its place in the line, little end first
+abbrev pub numbersIn : List ℕ → Numbers
+numbersIn b =
+    record {
+      timestamp = le (part b 0 8);
+      contracts = le (part b 86 6);
+      date = le (part b 99 2);
+      year = le (part b 101 2);
+      strike = le (part b 104 6);
+      price = le (part b 110 8);
+      «match_id» = le (part b 120 8);
+      «cross_id» = le (part b 129 8);
+    }
+
+-- a liquidity on a type that has none is a space
+abbrev pub oddLiquidity : List ℕ → Bool
+oddLiquidity b = not (isTrade (getD b 8 0)) && not (eqb (getD b 15 0) 32)
+
+-- an id on a type that has none is 0, and the last of its nine bytes is 0 on every type
+abbrev pub oddId : List ℕ → ℕ → Bool
+oddId b at = not (eqb (getD b (at + 8) 0) 0) || not (isTrade (getD b 8 0)) && not (eqb (le (part b at 8)) 0)
+
+-- the field of the first byte without meaning, or 0. A record of another length has no last field, or more than it
+unfoldable pub unmeant : List ℕ → ℕ
+unmeant b =
+    cond (not (eqb (length b) 138)) 24
+    (cond (not (member (getD b 8 0) types)) 2
+    (cond (oddLiquidity b) 6
+    (cond (not (all isZero (part b 118 2))) 22 (cond (oddId b 120) 23 (cond (oddId b 129) 24 0)))))
+
+-- the record that the bytes say
+unfoldable pub recordIn : List ℕ → Record
+recordIn b = recordFrom (numbersIn b) b
+
+-- the ids that the bytes hold: 0 where the type has none
+unfoldable pub idsSet : Trade → List ℕ → List ℕ
+idsSet t b = sets (sets b 120 (leBytes 9 (t .«match_id»))) 129 (leBytes 9 (t .«cross_id»))
+
+unfoldable pub earlySet : Record → List ℕ → List ℕ
+earlySet r b = sets (sets (sets b 0 (leBytes 8 (r .timestamp))) 86 (leBytes 6 (r .contracts))) 99 (leBytes 2 (r .date))
+
+unfoldable pub lateSet : Record → List ℕ → List ℕ
+lateSet r b = sets (sets (sets b 101 (leBytes 2 (r .year))) 104 (leBytes 6 (r .strike))) 110 (leBytes 10 (r .price))
+
+-- each number put little end first in its place
+abbrev pub numbersSet : Record → List ℕ → List ℕ
+numbersSet r b = idsSet (tradeOf (r .event)) (lateSet r (earlySet r b))
+
+-- the bytes of a record: those of its line without CR LF, but for its numbers
+unfoldable pub imageOf : Record → List ℕ
+imageOf r = numbersSet r (take 138 (lineOf r))

@@ -1,0 +1,128 @@
+-- What each entry of the door promises: the one number that it answers, and each lent number and byte.
+use Prim.Native.Nat.{ℕ, _+_, _*_}
+use mathlib.Core.Path.{_≡_}
+use mathlib.Core.Bool.{cond}
+use mathlib.Core.List.{List}
+use lib.Dec.{ltb, eqb}
+use lib.ListN.{length}
+use lib.Seq.{sets}
+use Rattle.refusal.specs.Answer.{Answer, value, refused}
+use Rattle.layout.specs.Clocks.{clock}
+use Rattle.layout.specs.Line.{Said, line, endOfDay, outAfter}
+use Rattle.layout.specs.Line.{read as readLine, write as writeLine}
+use Rattle.layout.specs.Strikes.{strikeValue, strikeForm}
+use Rattle.layout.specs.declared.Clock.{Clock}
+use Rattle.layout.specs.declared.Strike.{Strike}
+use Rattle.table.specs.Entries.{lookUpAnswer, copyAnswer, copiedFrom}
+use Rattle.table.specs.Tables.{makeAnswer, madeFrom, sound}
+use Rattle.book.specs.Bytes.{bookAnswer, bookBytes}
+use Rattle.sheet.specs.Promises.{sheetAnswer, sheetFrom}
+use Rattle.piece.specs.Pieces.{nextPiece}
+use Rattle.piece.specs.declared.Ahead.{Ahead}
+use Rattle.piece.specs.declared.Ahead.the-variants.{Piece, Nothing}
+use Rattle.door.specs.Images.{imageOf, recordIn, unmeant}
+
+-- 0, or the refusal's number plus 256 times its field
+abbrev pub codeOf : {A : Type 0} → Answer A → ℕ
+codeOf (value x) = 0
+codeOf (refused n f) = n + 256 * f
+
+-- a lent number afterwards: a refusal leaves it alone
+abbrev pub numberAfter : {A : Type 0} → (A → ℕ) → Answer A → ℕ → ℕ
+numberAfter of (value x) before = of x
+numberAfter of (refused n f) before = before
+
+-- ---- `skurzelt_read`: 4, then 1, 2, 3
+
+abbrev pub readAnswer : List ℕ → List ℕ → Answer Said
+readAnswer piece before = cond (ltb (length before) 138) (refused 4 0) (readLine piece)
+
+-- 1 is a record, 0 the end of the day
+abbrev pub kindOf : Said → ℕ
+kindOf endOfDay = 0
+kindOf (line r) = 1
+
+abbrev pub recordAfter : Answer Said → List ℕ → List ℕ
+recordAfter (value endOfDay) before = before
+recordAfter (value (line r)) before = sets before 0 (imageOf r)
+recordAfter (refused n f) before = before
+
+pub record Reads (piece before : List ℕ) (kind r : ℕ) (after : List ℕ) (kind' : ℕ) : Type 0 where
+  pub said : r ≡ codeOf (readAnswer piece before)
+  pub told : kind' ≡ numberAfter kindOf (readAnswer piece before) kind
+  pub out : after ≡ recordAfter (readAnswer piece before) before
+
+-- ---- `skurzelt_write`: 4, then 3 for a byte without meaning, then 3 for a field that breaks its rule
+
+abbrev pub writeAnswer : List ℕ → List ℕ → Answer (Unit {0})
+writeAnswer b before =
+    cond (ltb (length before) 140) (refused 4 0) (cond (eqb (unmeant b) 0) (writeLine (recordIn b) before) (refused 3 (unmeant b)))
+
+pub record Writes (b before : List ℕ) (r : ℕ) (after : List ℕ) : Type 0 where
+  pub said : r ≡ codeOf (writeAnswer b before)
+  pub out : after ≡ outAfter (writeAnswer b before) (recordIn b) before
+
+-- ---- strikes and clock
+
+-- `skurzelt_strike_value`
+pub record StrikeValues (d n v r v' : ℕ) : Type 0 where
+  pub said : r ≡ codeOf (strikeValue d n)
+  pub told : v' ≡ numberAfter (λ x. x) (strikeValue d n) v
+
+-- `skurzelt_strike_form`
+pub record StrikeForms (v d n r d' n' : ℕ) : Type 0 where
+  pub said : r ≡ codeOf (strikeForm v)
+  pub denominator : d' ≡ numberAfter (λ (x : Strike). x .denominator) (strikeForm v) d
+  pub digits : n' ≡ numberAfter (λ (x : Strike). x .digits) (strikeForm v) n
+
+-- `skurzelt_clock`
+pub record Clocks (ms h m s t r h' m' s' t' : ℕ) : Type 0 where
+  pub said : r ≡ codeOf (clock ms)
+  pub hours : h' ≡ numberAfter (λ (x : Clock). x .hours) (clock ms) h
+  pub minutes : m' ≡ numberAfter (λ (x : Clock). x .minutes) (clock ms) m
+  pub seconds : s' ≡ numberAfter (λ (x : Clock). x .seconds) (clock ms) s
+  pub milliseconds : t' ≡ numberAfter (λ (x : Clock). x .milliseconds) (clock ms) t
+
+-- ---- tables
+
+-- `skurzelt_empty_table`
+pub record Empties (before : List ℕ) (r : ℕ) (after : List ℕ) : Type 0 where
+  pub said : r ≡ codeOf (makeAnswer before)
+  pub out : after ≡ madeFrom (makeAnswer before) before
+
+-- `skurzelt_check_table`
+pub record Checks (table : List ℕ) (r : ℕ) : Type 0 where
+  pub said : r ≡ cond (sound table) 0 5
+
+-- `skurzelt_find_order`
+pub record Finds (table key : List ℕ) (p r p' : ℕ) : Type 0 where
+  pub said : r ≡ codeOf (lookUpAnswer table key)
+  pub told : p' ≡ numberAfter (λ x. x) (lookUpAnswer table key) p
+
+-- `skurzelt_order_at`
+pub record OrdersAt (table : List ℕ) (i : ℕ) (before : List ℕ) (r : ℕ) (after : List ℕ) : Type 0 where
+  pub said : r ≡ codeOf (copyAnswer table i before)
+  pub out : after ≡ copiedFrom (copyAnswer table i before) table i before
+
+-- `skurzelt_book`
+pub record BooksIn (before piece : List ℕ) (r : ℕ) (after : List ℕ) : Type 0 where
+  pub said : r ≡ codeOf (bookAnswer before piece)
+  pub out : after ≡ bookBytes before piece
+
+-- `skurzelt_sheet`
+pub record SheetsIn (table before : List ℕ) (n r : ℕ) (after : List ℕ) (n' : ℕ) : Type 0 where
+  pub said : r ≡ codeOf (sheetAnswer table before)
+  pub told : n' ≡ numberAfter (λ x. x) (sheetAnswer table before) n
+  pub out : after ≡ sheetFrom (sheetAnswer table before) table before
+
+-- ---- texts
+
+-- the place behind the next piece; where nothing is left, the place that was asked for
+abbrev pub endOf : Ahead → ℕ → ℕ
+endOf (Piece e) at = e
+endOf Nothing at = at
+
+-- `skurzelt_next_piece`
+pub record NextPieces (text : List ℕ) (at r e' : ℕ) : Type 0 where
+  pub said : r ≡ 0
+  pub told : e' ≡ endOf (nextPiece text at) at

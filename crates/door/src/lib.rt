@@ -1,0 +1,206 @@
+// The door for hosts: every public operation as a C function over numbers, byte slices and lent numbers. Each answers 0, or the refusal's number
+// plus 256 times its field; a refusal changes no lent number and no lent byte. include/skurzelt.h says it for people.
+ghost use mathlib.Core.Path.{_≡_};
+ghost use Prim.Native.Nat.{_+_, _*_};
+ghost use Rattle.refusal.specs.Numbers.{fieldOf, numberOf};
+ghost use Rattle.door.specs.Promises.{BooksIn, Checks, Clocks, Empties, Finds, NextPieces, OrdersAt, Reads, SheetsIn, StrikeForms, StrikeValues, Writes};
+
+mod image;
+
+use book::Booking;
+use line::Outcome;
+use line::StrikeForm;
+use line::StrikeValue;
+use line::TimeOfDay;
+use line::Written;
+use piece::Ahead;
+use refusal::Refusal;
+use sheet::Writing;
+use table::Found;
+use table::Made;
+use table::damage;
+
+const DONE: u32 = 0;
+
+// The one number that says a refusal.
+fn code(x: Refusal) -> u32
+    ensures { λ r. ⌜ r ≡ numberOf x + 256 * fieldOf x ⌝ }
+{
+    refusal::number(x) as u32 + 256 * refusal::field(x) as u32
+}
+
+// A piece as the 138 bytes of its record; kind is then 1. The end of the day is kind 0 and writes no record.
+#[no_mangle]
+pub extern "C" fn skurzelt_read(piece: &[u8], record: &mut [u8], kind: &mut u64) -> u32
+    ensures { λ r. ⌜ Reads (now (piece .entry)) (now («record» .entry)) (now (kind .entry)) r (now («record» .exit)) (now (kind .exit)) ⌝ }
+{
+    if record.len() < image::RECORD {
+        return code(Refusal::NoRoom);
+    }
+    let reading = line::read(piece);
+    let outcome = reading.outcome;
+    match outcome {
+        Outcome::Refused(x) => code(x),
+        Outcome::EndOfDay => {
+            *kind = 0;
+            DONE
+        }
+        Outcome::Line => {
+            image::store(reading.line, piece, record);
+            *kind = 1;
+            DONE
+        }
+    }
+}
+
+// A record of 138 bytes as its line.
+#[no_mangle]
+pub extern "C" fn skurzelt_write(record: &[u8], line: &mut [u8]) -> u32
+    ensures { λ r. ⌜ Writes (now («record» .entry)) (now (line .entry)) r (now (line .exit)) ⌝ }
+{
+    if line.len() < 140 {
+        return code(Refusal::NoRoom);
+    }
+    let odd = image::unmeant(record);
+    if odd != 0 {
+        return code(Refusal::Field(odd));
+    }
+    match line::write(image::load(record), line) {
+        Written::Done => DONE,
+        Written::Refused(x) => code(x),
+    }
+}
+
+#[no_mangle]
+pub extern "C" fn skurzelt_strike_value(denominator: u8, strike: u64, value: &mut u64) -> u32
+    ensures { λ r. ⌜ StrikeValues denominator strike (now (value .entry)) r (now (value .exit)) ⌝ }
+{
+    match line::strike_value(denominator, strike) {
+        StrikeValue::Value(v) => {
+            *value = v;
+            DONE
+        }
+        StrikeValue::Refused(x) => code(x),
+    }
+}
+
+#[no_mangle]
+pub extern "C" fn skurzelt_strike_form(value: u64, denominator: &mut u64, strike: &mut u64) -> u32
+    ensures { λ r. ⌜ StrikeForms value (now (denominator .entry)) (now (strike .entry)) r (now (denominator .exit)) (now (strike .exit)) ⌝ }
+{
+    match line::strike_form(value) {
+        StrikeForm::Form(f) => {
+            *denominator = f.denominator as u64;
+            *strike = f.digits;
+            DONE
+        }
+        StrikeForm::Refused(x) => code(x),
+    }
+}
+
+#[no_mangle]
+pub extern "C" fn skurzelt_clock(
+    timestamp: u64,
+    hours: &mut u64,
+    minutes: &mut u64,
+    seconds: &mut u64,
+    milliseconds: &mut u64,
+) -> u32
+    ensures { λ r. ⌜ Clocks timestamp (now (hours .entry)) (now (minutes .entry)) (now (seconds .entry)) (now (milliseconds .entry)) r (now (hours .exit)) (now (minutes .exit)) (now (seconds .exit)) (now (milliseconds .exit)) ⌝ }
+{
+    match line::clock(timestamp) {
+        TimeOfDay::Time(t) => {
+            *hours = t.hours;
+            *minutes = t.minutes;
+            *seconds = t.seconds;
+            *milliseconds = t.milliseconds;
+            DONE
+        }
+        TimeOfDay::Refused(x) => code(x),
+    }
+}
+
+#[no_mangle]
+pub extern "C" fn skurzelt_empty_table(table: &mut [u8]) -> u32
+    ensures { λ r. ⌜ Empties (now (table .entry)) r (now (table .exit)) ⌝ }
+{
+    match table::make_empty(table) {
+        Made::Done => DONE,
+        Made::Refused(x) => code(x),
+    }
+}
+
+#[no_mangle]
+pub extern "C" fn skurzelt_check_table(table: &[u8]) -> u32
+    ensures { λ r. ⌜ Checks (now (table .entry)) r ⌝ }
+{
+    if damage::is_sound(table) {
+        return DONE;
+    }
+    code(Refusal::Damaged)
+}
+
+// The place of the earliest order with a key.
+#[no_mangle]
+pub extern "C" fn skurzelt_find_order(table: &[u8], key: &[u8], place: &mut u64) -> u32
+    ensures { λ r. ⌜ Finds (now (table .entry)) (now (key .entry)) (now (place .entry)) r (now (place .exit)) ⌝ }
+{
+    match table::look_up(table, key) {
+        Found::At(i) => {
+            *place = i as u64;
+            DONE
+        }
+        Found::Refused(x) => code(x),
+    }
+}
+
+// The 80 bytes of the order at a place.
+#[no_mangle]
+pub extern "C" fn skurzelt_order_at(table: &[u8], place: u64, order: &mut [u8]) -> u32
+    ensures { λ r. ⌜ OrdersAt (now (table .entry)) place (now (order .entry)) r (now (order .exit)) ⌝ }
+{
+    match table::copy_order(table, place as usize, order) {
+        Made::Done => DONE,
+        Made::Refused(x) => code(x),
+    }
+}
+
+#[no_mangle]
+pub extern "C" fn skurzelt_book(table: &mut [u8], piece: &[u8]) -> u32
+    ensures { λ r. ⌜ BooksIn (now (table .entry)) (now (piece .entry)) r (now (table .exit)) ⌝ }
+{
+    match book::book(table, piece) {
+        Booking::Booked => DONE,
+        Booking::Refused(x) => code(x),
+    }
+}
+
+// The family sheet; written is how many bytes it has.
+#[no_mangle]
+pub extern "C" fn skurzelt_sheet(table: &[u8], out: &mut [u8], written: &mut u64) -> u32
+    ensures { λ r. ⌜ SheetsIn (now (table .entry)) (now (out .entry)) (now (written .entry)) r (now (out .exit)) (now (written .exit)) ⌝ }
+{
+    match sheet::write(table, out) {
+        Writing::Done(n) => {
+            *written = n as u64;
+            DONE
+        }
+        Writing::Refused(x) => code(x),
+    }
+}
+
+// The place behind the piece that starts at a place; where nothing is left, that place.
+#[no_mangle]
+pub extern "C" fn skurzelt_next_piece(text: &[u8], at: u64, end: &mut u64) -> u32
+    ensures { λ r. ⌜ NextPieces (now (text .entry)) at r (now (end .exit)) ⌝ }
+{
+    match piece::next(text, at as usize) {
+        Ahead::Piece(e) => {
+            *end = e as u64;
+        }
+        Ahead::Nothing => {
+            *end = at;
+        }
+    }
+    DONE
+}

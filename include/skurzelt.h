@@ -1,0 +1,100 @@
+/* Skurzelt: QUO DROP lines, the table of a day's orders, and the family sheet.
+
+   Lending. The library keeps nothing and allocates nothing. A caller lends bytes (a pointer and a length) and numbers (a pointer to one) for the
+   time of one call. What is lent as const is only read. Buffers lent to one call must not overlap. A pointer must not be null, even where the
+   length is 0. Calls on different tables may run at the same time.
+
+   Answers. Every function answers one number: 0, or a refusal. A refusal is its number, and for SKURZELT_FIELD also 256 times the field:
+   use skurzelt_refusal() and skurzelt_field(). A refused call has changed no lent byte and no lent number. Any bytes may be lent, of any length:
+   a call always answers.
+
+   The layouts of a table, of an order in it and of a record are in docs/LAYOUT.md. */
+
+#ifndef SKURZELT_H
+#define SKURZELT_H
+
+#include <stddef.h>
+#include <stdint.h>
+
+#ifdef __cplusplus
+extern "C" {
+#endif
+
+enum {
+    SKURZELT_NO_LINE = 1,       /* neither CR LF alone nor 140 bytes ending in CR LF */
+    SKURZELT_BAD_BYTE = 2,      /* one of the 138 bytes is outside 20 to 7E hex */
+    SKURZELT_FIELD = 3,         /* a field breaks its rule; the first one is named */
+    SKURZELT_NO_ROOM = 4,       /* the lent buffer is too short */
+    SKURZELT_DAMAGED = 5,       /* the table is damaged */
+    SKURZELT_DAY_OVER = 6,      /* end of day was booked before */
+    SKURZELT_KNOWN_KEY = 7,     /* A or U: the key is in the table */
+    SKURZELT_UNKNOWN_KEY = 8,   /* the key, or the elder's, is not in the table */
+    SKURZELT_OTHER_SERIES = 9,  /* side or series differs */
+    SKURZELT_NOT_OPEN = 10,     /* more than is open, or nothing is open */
+    SKURZELT_NOT_EXECUTED = 11, /* more than executed less broken */
+    SKURZELT_FULL = 12          /* the table is full */
+};
+
+enum {
+    SKURZELT_LINE = 140,       /* bytes of a line, CR LF included */
+    SKURZELT_RECORD = 138,     /* bytes of a record */
+    SKURZELT_KEY = 26,         /* bytes of a key: six of Source, twenty of Token */
+    SKURZELT_ORDER = 80,       /* bytes of an order in its table */
+    SKURZELT_TABLE = 40968,    /* bytes of a table: 512 orders */
+    SKURZELT_SHEET = 39960     /* a buffer of so many bytes is never too short for a sheet */
+};
+
+/* The refusal in an answer (0: none), and the field that comes with a 3. */
+static inline unsigned skurzelt_refusal(uint32_t answer) { return answer % 256; }
+static inline unsigned skurzelt_field(uint32_t answer) { return answer / 256; }
+
+/* ---- lines and records */
+
+/* Reads a piece. A line sets *kind to 1 and writes the first 138 bytes of record; the end of the day (CR LF alone) sets *kind to 0 and writes
+   nothing. Refuses 4 (record under 138 bytes), 1, 2, 3. */
+uint32_t skurzelt_read(const uint8_t *piece, size_t piece_length, uint8_t *record, size_t record_length, uint64_t *kind);
+
+/* Writes the line of a record into the first 140 bytes of line. Refuses 4 (line under 140 bytes); 3 for a byte of the record that has no meaning;
+   3 for the first field that breaks its rule. */
+uint32_t skurzelt_write(const uint8_t *record, size_t record_length, uint8_t *line, size_t line_length);
+
+/* A strike's value in hundred-thousandths of a dollar, from its denominator code and its six digits as a number. Refuses 3. */
+uint32_t skurzelt_strike_value(uint8_t denominator, uint64_t strike, uint64_t *value);
+
+/* The one form of a value: denominator code and digits. Refuses 3, field 21, exactly when there is none. */
+uint32_t skurzelt_strike_form(uint64_t value, uint64_t *denominator, uint64_t *strike);
+
+/* The time of day of a timestamp in milliseconds. Refuses 3, field 1. */
+uint32_t skurzelt_clock(uint64_t timestamp, uint64_t *hours, uint64_t *minutes, uint64_t *seconds, uint64_t *milliseconds);
+
+/* ---- the table */
+
+/* Makes the empty table. Refuses 4 (under 40,968 bytes) and 5 (any more). */
+uint32_t skurzelt_empty_table(uint8_t *table, size_t table_length);
+
+/* Whether a table is damaged: 0, or 5. */
+uint32_t skurzelt_check_table(const uint8_t *table, size_t table_length);
+
+/* The place, from 0, of the earliest order with a key (Source, then Token). Refuses 5, then 8: no order has the key. */
+uint32_t skurzelt_find_order(const uint8_t *table, size_t table_length, const uint8_t *key, size_t key_length, uint64_t *place);
+
+/* Copies the order at a place into the first 80 bytes of order. Refuses 5, 4 (order under 80 bytes), then 8: no order is there. */
+uint32_t skurzelt_order_at(const uint8_t *table, size_t table_length, uint64_t place, uint8_t *order, size_t order_length);
+
+/* Books a piece. Refuses 5, 1, 2, 3, then 6 to 12. */
+uint32_t skurzelt_book(uint8_t *table, size_t table_length, const uint8_t *piece, size_t piece_length);
+
+/* Writes the family sheet into the first *written bytes of out. Refuses 5, then 4 (out too short). */
+uint32_t skurzelt_sheet(const uint8_t *table, size_t table_length, uint8_t *out, size_t out_length, uint64_t *written);
+
+/* ---- texts */
+
+/* The next piece of a text from a place on: its bytes are those from `at` up to but not including *end. A piece runs up to and including the next
+   LF, or to the end of the text. Where nothing is left, *end is `at`. Never refuses. */
+uint32_t skurzelt_next_piece(const uint8_t *text, size_t text_length, uint64_t at, uint64_t *end);
+
+#ifdef __cplusplus
+}
+#endif
+
+#endif
