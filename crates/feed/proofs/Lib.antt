@@ -1,0 +1,12 @@
+pub mod Advancing
+pub mod Endings
+pub mod Enough
+pub mod Finishing
+pub mod Keeping
+pub mod Longest
+pub mod Numbering
+pub mod Remaining
+pub mod Reporting
+pub mod Saying
+pub mod Turns
+pub mod Whole

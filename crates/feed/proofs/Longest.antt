@@ -1,0 +1,110 @@
+-- The longest refusal line has 46 bytes: no number above 12 is given, and no field above 24.
+use Prim.Native.Nat.{ℕ, _+_, _≤_}
+use native.Mathlib.Omega.{arith}
+use mathlib.Core.Path.{_≡_, refl, sym, subst}
+use mathlib.Core.Bool.{Bool, true, false, cond, not, _&&_}
+use mathlib.Core.Logic.{_⊎_, inl, inr}
+use mathlib.Core.List.{List, [], _∷_, _++_}
+use borrow.Author.Tests.{eqb-true}
+use lib.Dec.{leb, eqb}
+use lib.ListN.{length, length-append}
+use Rattle.refusal.specs.Answer.{Answer, value, refused}
+use Rattle.layout.specs.Line.{Said, endOfDay, line, read}
+use Rattle.layout.proofs.Answers.{ReadSays, read-says}
+use Rattle.order.specs.Names.{keyOf}
+use Rattle.day.specs.History.{isNew, isMaker}
+use Rattle.day.specs.Machine.{Table, find, isFound, differs, notOpen, notExecuted, refusalOf, bookRead}
+use Rattle.day.specs.Refusals.{subject}
+use Rattle.day.proofs.Chain.{answerBy}
+use Rattle.day.proofs.Verdict.{said-answer}
+use Rattle.table.specs.Tables.{limitOf, tableIn, sound}
+use Rattle.book.specs.Bytes.{bookAnswer}
+use Rattle.row.specs.Texts.{decimal}
+use Rattle.row.proofs.Decimals.{decimal-length, decimal-most}
+use Rattle.feed.specs.Printed.{lineWord, refusedWord, fieldWord, fieldText, report}
+
+-- ---- what is answered
+
+abbrev Few : {A : Type 0} → Answer A → Type 0
+Few (value x) = Unit {0}
+Few (refused n f) = (n ≤ 12) × (f ≤ 24)
+
+read-few : (p : List ℕ) (a : Answer Said) → ReadSays p a → Few a
+read-few p (value x) h = tt
+read-few p (refused n f) h = go (h .number)
+  where
+    go : ((n ≡ 1) × (f ≡ 0)) ⊎ ((n ≡ 2) × (f ≡ 0)) ⊎ (n ≡ 3) → (n ≤ 12) × (f ≤ 24)
+    go (inl e) = (omega arith, omega arith)
+    go (inr (inl e)) = (omega arith, omega arith)
+    go (inr (inr e)) = (omega arith, h .by3 e .2 .most)
+
+first-most : (b : Bool) (n m : ℕ) → n ≤ 12 → m ≤ 12 → cond b n m ≤ 12
+first-most true n m h k = h
+first-most false n m h k = k
+
+-- of seven tests, the first that applies
+seven-most : (a b c d e f g : Bool) → cond a 6 (cond b 7 (cond c 8 (cond d 9 (cond e 10 (cond f 11 (cond g 12 0)))))) ≤ 12
+seven-most a b c d e f g =
+    first-most a 6 _ (omega arith)
+    (first-most b 7 _ (omega arith)
+    (first-most c 8 _ (omega arith)
+    (first-most d 9 _ (omega arith)
+    (first-most e 10 _ (omega arith) (first-most f 11 _ (omega arith) (first-most g 12 0 (omega arith) (omega arith)))))))
+
+refusal-most : (limit : ℕ) (t : Table) (x : Said) → refusalOf limit t x ≤ 12
+refusal-most limit t endOfDay = first-most (t .over) 6 0 (omega arith) (omega arith)
+refusal-most limit t (line r) =
+    let older = not (isNew (r .event)) in
+    let theirs = find (subject r) (t .orders) in
+    seven-most (t .over) (isMaker (r .event) && isFound (find (keyOf r) (t .orders))) (older && not (isFound theirs))
+    (older && differs r theirs)
+    (older && notOpen r theirs)
+    (older && notExecuted r theirs)
+    (isMaker (r .event) && leb limit (length (t .orders)))
+
+by-few : (n : ℕ) → n ≤ 12 → Few (answerBy n)
+by-few n h = go (eqb n 0)
+  where
+    go : (b : Bool) → Few {A = Unit {0}} (cond b (value tt) (refused n 0))
+    go true = tt
+    go false = (h, omega arith)
+
+booked-few : (limit : ℕ) (t : Table) (a : Answer Said) → Few a → Few (bookRead limit t a .answer)
+booked-few limit t (value x) h = subst Few (sym (said-answer limit t x)) (by-few (refusalOf limit t x) (refusal-most limit t x))
+booked-few limit t (refused n f) h = h
+
+answer-few : (s p : List ℕ) → Few (bookAnswer s p)
+unfolding bookAnswer
+answer-few s p = go (sound s)
+  where
+    go : (b : Bool) → Few (cond b (bookRead (limitOf (length s)) (tableIn s) (read p) .answer) (refused 5 0))
+    go true = booked-few (limitOf (length s)) (tableIn s) (read p) (read-few p (read p) (read-says p refl))
+    go false = (omega arith, omega arith)
+
+-- ---- how long that is
+
+-- a number of at most two digits, and a field of at most three only behind a 3
+pub tail-most : (n f : ℕ) → n ≤ 99 → f ≤ 999
+    → (length (decimal n) ≤ 2) × (length (decimal n) + length (fieldText n f) ≤ 11)
+tail-most n f h k = (two .1, go (eqb n 3) refl)
+  where
+    two : (1 ≤ length (decimal n)) × (length (decimal n) ≤ 2)
+    two = decimal-length n 2 (omega arith) (omega arith)
+
+    go : (b : Bool) → eqb n 3 ≡ b → length (decimal n) + length (cond b (fieldWord ++ decimal f) []) ≤ 11
+    go true e =
+        let one = decimal-length n 1 (omega arith) (omega (arith, eqb-true n 3 e)) in
+        let three = decimal-length f 3 (omega arith) (omega arith) in
+        omega (arith, length-append fieldWord (decimal f))
+    go false e = omega (arith, two)
+
+line-length : (a b c d e f : List ℕ) → length (a ++ b ++ c ++ d ++ e ++ f) ≡ length a + length b + length c + length d + length e + length f
+line-length a b c d e f = simp (length-append {A = ℕ})
+
+report-most : (l : ℕ) (a : Answer (Unit {0})) → Few a → length (report l a) ≤ 46
+report-most l (value u) h = omega arith
+report-most l (refused n f) h =
+    omega (arith, line-length lineWord (decimal l) refusedWord (decimal n) (fieldText n f) (10 ∷ []), decimal-most l, tail-most n f (omega arith) (omega arith))
+
+pub said-most : (l : ℕ) (s p : List ℕ) → length (report l (bookAnswer s p)) ≤ 46
+said-most l s p = report-most l (bookAnswer s p) (answer-few s p)

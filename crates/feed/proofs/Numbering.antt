@@ -1,0 +1,64 @@
+-- Over the bytes of a sound table, with a number of 64 bits for the line, no other text is left than 01 says.
+use Prim.Native.Nat.{ℕ, _+_, _-_, _^_, _≤_, _<_}
+use native.Mathlib.Omega.{arith}
+use mathlib.Core.Path.{_≡_, refl, sym, ap, _∙_}
+use mathlib.Core.Bool.{Bool, true, false, cond}
+use mathlib.Core.List.{List, [], _∷_, _++_}
+use borrow.Author.Tests.{lt-ltb, le-ltb}
+use lib.Dec.{ltb}
+use lib.ListN.{length}
+use Rattle.refusal.specs.Answer.{Answer}
+use Rattle.day.specs.Machine.{Table, Booked, book}
+use Rattle.table.specs.Tables.{limitOf, tableIn, sound}
+use Rattle.table.proofs.Limits.{limit-is}
+use Rattle.book.specs.Bytes.{bookBytes, bookAnswer}
+use Rattle.book.proofs.Machine.{booked-table, booked-sound}
+use Rattle.book.proofs.Sound.{sound-holds}
+use Rattle.feed.specs.Printed.{report, printedFrom}
+use Rattle.feed.specs.Steps.{nextLine}
+use Rattle.feed.proofs.Remaining.{leftFrom}
+
+-- ---- a sound table and the table that it says
+
+module _ (s p : List ℕ) (e : sound s ≡ true) where
+  same-limit : book (limitOf (length s)) (tableIn s) p ≡ book 512 (tableIn s) p
+  same-limit = ap (λ n. book n (tableIn s) p) (sym (limit-is (length s) (sound-holds s e .0 .long)))
+
+  same-table : tableIn (bookBytes s p) ≡ book 512 (tableIn s) p .table
+  same-table = booked-table s p e ∙ ap (λ (b : Booked). b .table) same-limit
+
+  same-said : bookAnswer s p ≡ book 512 (tableIn s) p .answer
+  unfolding bookAnswer
+  same-said = rw e (ap (λ (b : Booked). b .answer) same-limit)
+
+-- ---- the number of a piece
+
+pub line-up : (l : ℕ) → l < 2 ^ 64 - 1 → l + 1 ≡ nextLine l
+line-up l h = rw (lt-ltb l (2 ^ 64 - 1) h)
+
+pub line-last : (l : ℕ) → 2 ^ 64 - 1 ≤ l → l ≡ nextLine l
+line-last l h = rw (le-ltb l (2 ^ 64 - 1) h)
+
+-- where a piece is left, the number goes up by 1
+next-is : (l : ℕ) (t : Table) (ps : List (List ℕ)) → l + (1 + length ps) ≤ 2 ^ 64 → printedFrom (nextLine l) t ps ≡ printedFrom (l + 1) t ps
+next-is l t [] h = refl
+next-is l t (p ∷ ps) h = ap (λ n. printedFrom n t (p ∷ ps)) (sym (line-up l (omega arith)))
+
+next-most : (l : ℕ) → nextLine l ≤ l + 1
+next-most l = go (ltb l (2 ^ 64 - 1))
+  where
+    go : (b : Bool) → cond b (l + 1) l ≤ l + 1
+    go true = omega arith
+    go false = omega arith
+
+-- ---- the pieces left
+
+pub left-printed : (l : ℕ) (s : List ℕ) (ps : List (List ℕ)) → sound s ≡ true → l + length ps ≤ 2 ^ 64
+    → leftFrom l s ps ≡ printedFrom l (tableIn s) ps
+left-printed l s [] e h = refl
+left-printed l s (p ∷ ps) e h =
+    let after = bookBytes s p in
+    let rest = left-printed (nextLine l) after ps (booked-sound s p e) (omega (arith, next-most l)) in
+    ap (λ (a : Answer (Unit {0})). report l a ++ leftFrom (nextLine l) after ps) (same-said s p e)
+    ∙ ap (λ q. report l (book 512 (tableIn s) p .answer) ++ q)
+    (rest ∙ next-is l (tableIn after) ps (omega arith) ∙ ap (λ (t : Table). printedFrom (l + 1) t ps) (same-table s p e))

@@ -1,0 +1,76 @@
+// Booking a piece where it stands, or from the hold where it straddles two chunks.
+ghost use Prim.Native.Nat.{_≤_};
+ghost use mathlib.Core.Path.{_≡_};
+ghost use mathlib.Core.Bool.{true};
+ghost use mathlib.Core.List.{_++_};
+ghost use lib.ListN.{length};
+ghost use Rattle.book.specs.Bytes.{bookAnswer, bookBytes};
+ghost use Rattle.table.specs.Tables.{sound};
+ghost use Rattle.row.specs.Writes.{Wrote};
+ghost use Rattle.feed.specs.Printed.{report as Printed·report};
+ghost use Rattle.feed.specs.Steps.{heldIn, keptOf};
+use crate::report;
+use book::Booking;
+use field::put;
+
+// One byte more than a line, so that a piece that is too long is seen to be.
+const KEPT: usize = 141;
+
+// A part of a piece behind what is held of it.
+pub fn keep(hold: &mut [u8], held: usize, part: &[u8]) -> usize
+    requires { ⌜ length (now hold) ≡ 141 ⌝ }
+    requires { ⌜ held ≤ 141 ⌝ }
+    ensures { λ r. ⌜ heldIn (now (hold .exit)) r ≡ keptOf (heldIn (now (hold .entry)) held ++ now (part .entry)) ⌝ }
+    ensures { λ r. ⌜ (r ≤ 141) × (length (now (hold .exit)) ≡ 141) ⌝ }
+{
+    let room = KEPT - held;
+    let n = if part.len() < room { part.len() } else { room };
+    put::run(hold, held, &part[0..n]);
+    held + n
+}
+
+fn book_piece(t: &mut [u8], piece: &[u8], line: u64, out: &mut [u8]) -> usize
+    requires { ⌜ sound (now t) ≡ true ⌝ }
+    requires { ⌜ 46 ≤ length (now out) ⌝ }
+    ensures { λ r. ⌜ Wrote (Printed·report line (bookAnswer (now (t .entry)) (now (piece .entry)))) (now (out .entry)) (now (out .exit)) r ⌝ }
+    ensures { λ _. ⌜ now (t .exit) ≡ bookBytes (now (t .entry)) (now (piece .entry)) ⌝ }
+{
+    match book::book_sound(t, piece) {
+        Booking::Booked => 0,
+        Booking::Refused(x) => report::refused(line, x, out),
+    }
+}
+
+pub fn book_held(t: &mut [u8], hold: &[u8], held: usize, line: u64, out: &mut [u8]) -> usize
+    requires { ⌜ sound (now t) ≡ true ⌝ }
+    requires { ⌜ held ≤ length (now hold) ⌝ }
+    requires { ⌜ 46 ≤ length (now out) ⌝ }
+    ensures { λ r. ⌜ Wrote (Printed·report line (bookAnswer (now (t .entry)) (heldIn (now (hold .entry)) held))) (now (out .entry)) (now (out .exit)) r ⌝ }
+    ensures { λ _. ⌜ now (t .exit) ≡ bookBytes (now (t .entry)) (heldIn (now (hold .entry)) held) ⌝ }
+{
+    book_piece(t, &hold[0..held], line, out)
+}
+
+// The part of a chunk that ends a piece. Where nothing is held it is the piece.
+pub fn book_part(
+    t: &mut [u8],
+    hold: &mut [u8],
+    held: usize,
+    part: &[u8],
+    line: u64,
+    out: &mut [u8],
+) -> usize
+    requires { ⌜ sound (now t) ≡ true ⌝ }
+    requires { ⌜ length (now hold) ≡ 141 ⌝ }
+    requires { ⌜ held ≤ 141 ⌝ }
+    requires { ⌜ 46 ≤ length (now out) ⌝ }
+    ensures { λ r. ⌜ Wrote (Printed·report line (bookAnswer (now (t .entry)) (heldIn (now (hold .entry)) held ++ now (part .entry)))) (now (out .entry)) (now (out .exit)) r ⌝ }
+    ensures { λ _. ⌜ now (t .exit) ≡ bookBytes (now (t .entry)) (heldIn (now (hold .entry)) held ++ now (part .entry)) ⌝ }
+    ensures { λ _. ⌜ length (now (hold .exit)) ≡ 141 ⌝ }
+{
+    if held == 0 {
+        return book_piece(t, part, line, out);
+    }
+    let n = keep(hold, held, part);
+    book_held(t, hold, n, line, out)
+}
