@@ -1,6 +1,7 @@
 pub mod Booked
 pub mod Determined
 pub mod Holding
+pub mod Limited
 pub mod Machine
 pub mod Planned
 pub mod Reached

@@ -8,28 +8,14 @@ use borrow.Author.Tests.{lt-ltb, le-ltb}
 use lib.Dec.{ltb}
 use lib.ListN.{length}
 use Rattle.refusal.specs.Answer.{Answer}
-use Rattle.day.specs.Machine.{Table, Booked, book}
-use Rattle.table.specs.Tables.{limitOf, tableIn, sound}
-use Rattle.table.proofs.Limits.{limit-is}
-use Rattle.book.specs.Bytes.{bookBytes, bookAnswer}
-use Rattle.book.proofs.Machine.{booked-table, booked-sound}
-use Rattle.book.proofs.Sound.{sound-holds}
+use Rattle.day.specs.Machine.{Table, book}
+use Rattle.table.specs.Tables.{tableIn, sound}
+use Rattle.book.specs.Bytes.{bookBytes}
+use Rattle.book.proofs.Limited.{says-answer, says-table}
+use Rattle.book.proofs.Machine.{booked-sound}
 use Rattle.feed.specs.Printed.{report, printedFrom}
 use Rattle.feed.specs.Steps.{nextLine}
 use Rattle.feed.proofs.Remaining.{leftFrom}
-
--- ---- a sound table and the table that it says
-
-module _ (s p : List ℕ) (e : sound s ≡ true) where
-  same-limit : book (limitOf (length s)) (tableIn s) p ≡ book 512 (tableIn s) p
-  same-limit = ap (λ n. book n (tableIn s) p) (sym (limit-is (length s) (sound-holds s e .0 .long)))
-
-  same-table : tableIn (bookBytes s p) ≡ book 512 (tableIn s) p .table
-  same-table = booked-table s p e ∙ ap (λ (b : Booked). b .table) same-limit
-
-  same-said : bookAnswer s p ≡ book 512 (tableIn s) p .answer
-  unfolding bookAnswer
-  same-said = rw e (ap (λ (b : Booked). b .answer) same-limit)
 
 -- ---- the number of a piece
 
@@ -59,6 +45,6 @@ left-printed l s [] e h = refl
 left-printed l s (p ∷ ps) e h =
     let after = bookBytes s p in
     let rest = left-printed (nextLine l) after ps (booked-sound s p e) (omega (arith, next-most l)) in
-    ap (λ (a : Answer (Unit {0})). report l a ++ leftFrom (nextLine l) after ps) (same-said s p e)
+    ap (λ (a : Answer (Unit {0})). report l a ++ leftFrom (nextLine l) after ps) (says-answer s p e)
     ∙ ap (λ q. report l (book 512 (tableIn s) p .answer) ++ q)
-    (rest ∙ next-is l (tableIn after) ps (omega arith) ∙ ap (λ (t : Table). printedFrom (l + 1) t ps) (same-table s p e))
+    (rest ∙ next-is l (tableIn after) ps (omega arith) ∙ ap (λ (t : Table). printedFrom (l + 1) t ps) (says-table s p e))
