@@ -1,6 +1,7 @@
 pub mod Answered
 pub mod Back
 pub mod Cells
+pub mod Demand1
 pub mod Determined
 pub mod Odd
 pub mod Readings

@@ -1,0 +1,227 @@
+-- The tender's demand 1, proved: every answer is 0 or a numbered refusal, and what is refused is left as it was.
+use Prim.Native.Nat.{ℕ, zero, suc, _/_, _%_}
+use native.Mathlib.Omega.{arith}
+use mathlib.Core.Path.{_≡_, refl, sym, ap, _∙_}
+use mathlib.Core.Bool.{Bool, true, false, cond, not, _&&_, false≢true}
+use mathlib.Core.List.{List}
+use mathlib.Core.Logic.{inl, inr, ⊎-elim}
+use lib.Dec.{ltb, leb, eqb}
+use lib.ListN.{length, getD}
+use Rattle.cell.specs.Cells.{isZero}
+use Rattle.field.specs.Byte.{all}
+use Rattle.field.specs.Kept.{member}
+use Rattle.field.proofs.Fill.{between, is-between}
+use Rattle.refusal.specs.Answer.{Answer, value, refused, refusedBy}
+use Rattle.refusal.specs.Numbers.{numberOf}
+use Rattle.refusal.specs.declared.Refusal.{Refusal}
+use Rattle.refusal.specs.declared.Refusal.the-variants.{NoLine, BadByte, Field, NoRoom, Damaged, DayOver, KnownKey, UnknownKey, OtherSeries, NotOpen, NotExecuted, Full}
+use Rattle.layout.specs.Clocks.{clock}
+use Rattle.layout.specs.Demand2.{First}
+use Rattle.layout.specs.Layout.{part, types, denominators}
+use Rattle.layout.specs.Line.{Said, endOfDay, line, outAfter}
+use Rattle.layout.specs.Line.{read as readLine, write as writeLine}
+use Rattle.layout.specs.Strikes.{unit, lawfulStrike, strikeValue, formUnder, strikeForm}
+use Rattle.layout.specs.declared.Clock.{Clock}
+use Rattle.layout.specs.declared.Record.{Record}
+use Rattle.layout.specs.declared.Strike.{Strike}
+use Rattle.layout.proofs.Answers.{ReadRefused, ReadSays, read-says, WriteSays, write-says}
+use Rattle.order.specs.Names.{keyOf}
+use Rattle.day.specs.History.{isNew, isMaker}
+use Rattle.day.specs.Machine.{Table, find, place, isFound, differs, notOpen, notExecuted, refusalOf, Booked, bookRead}
+use Rattle.day.specs.Refusals.{subject}
+use Rattle.table.specs.Entries.{placeOr8, lookUpAnswer, copyAnswer, copiedFrom}
+use Rattle.table.specs.Slots.{keyIn}
+use Rattle.table.specs.Tables.{tableLength, limitOf, countIn, tableIn, sound, makeAnswer, madeFrom}
+use Rattle.book.specs.Bytes.{bookAnswer}
+use Rattle.book.proofs.Refuted.{refusal-stays}
+use Rattle.sheet.specs.Promises.{textOf, sheetAnswer, sheetFrom}
+use Rattle.door.specs.Demand1.{Answers, Refuses, Demand1}
+use Rattle.door.specs.Images.{oddLiquidity, oddId, unmeant, recordIn}
+use Rattle.door.specs.Promises.{codeOf, numberAfter, readAnswer, kindOf, recordAfter, writeAnswer}
+
+-- ---- a value, or a numbered refusal
+
+data Told {A : Type 0} : Answer A → Type 0 where
+  given : (x : A) → Told (value x)
+  field : (n : ℕ) → (leb 1 n && leb n 24) ≡ true → Told (refused 3 n)
+  other : (x : Refusal) → eqb (numberOf x) 3 ≡ false → Told (refusedBy x)
+
+told : {A : Type 0} {a : Answer A} {r : ℕ} → Told a → r ≡ codeOf a → Answers r
+told (given x) e = inl e
+told (field n h) e = inr (Field n, e, λ q. between 1 24 n h)
+told (other x h) e = inr (x, e, λ q. absurd (false≢true (sym h ∙ ap (λ n. eqb n 3) q)))
+
+-- what holds on both sides of a test
+unless : {A : Type 0} (P : A → Type 0) (t : Bool) {a b : A} → P a → (t ≡ false → P b) → P (cond t a b)
+unless P true x y = x
+unless P false x y = y refl
+
+both : {A : Type 0} (P : A → Type 0) (t : Bool) {a b : A} → P a → P b → P (cond t a b)
+both P t x y = unless P t x (λ e. y)
+
+-- where no refusal is named
+none : {P : Type 0} → true ≡ false → P
+none e = absurd (false≢true (sym e))
+
+-- the first field that fails
+first-told : {A : Type 0} {test : ℕ → Bool} {n : ℕ} → First test n → Told {A = A} (refused 3 n)
+first-told {n = n} h = field n (is-between 1 24 n (h .least) (h .most))
+
+-- a piece that is refused
+unread-told : {A : Type 0} (s : List ℕ) {n f : ℕ} → ReadRefused s n f → Told {A = A} (refused n f)
+unread-told s {n} {f} h =
+    ⊎-elim (λ e. rw (e .0, e .1) (other NoLine refl))
+    (⊎-elim (λ e. rw (e .0, e .1) (other BadByte refl)) (λ e. rw e (first-told (h .by3 e .2))))
+    (h .number)
+
+read-told : (s : List ℕ) → Told (readLine s)
+read-told s = go (readLine s) (read-says s refl)
+  where
+    go : (a : Answer Said) → ReadSays s a → Told a
+    go (value x) h = given x
+    go (refused n f) h = unread-told s h
+
+write-told : (r : Record) (out : List ℕ) → Told (writeLine r out)
+write-told r out = go (writeLine r out) (write-says r out refl)
+  where
+    go : (a : Answer (Unit {0})) → WriteSays r out a → Told a
+    go (value u) h = given u
+    go (refused n f) h =
+        ⊎-elim (λ e. rw (e .0, e .1) (other NoRoom refl)) (λ e. rw e (first-told (h .by3 e .1))) (h .number)
+
+-- a field, if any
+abbrev OfField : ℕ → Type 0
+OfField n = eqb n 0 ≡ false → Told {A = Unit {0}} (refused 3 n)
+
+unmeant-told : (b : List ℕ) → OfField (unmeant b)
+unfolding unmeant
+unmeant-told b =
+    both OfField (not (eqb (length b) 138)) (λ e. field 24 refl)
+    (both OfField (not (member (getD b 8 0) types)) (λ e. field 2 refl)
+    (both OfField (oddLiquidity b) (λ e. field 6 refl)
+    (both OfField (not (all isZero (part b 118 2))) (λ e. field 22 refl)
+    (both OfField (oddId b 120) (λ e. field 23 refl) (both OfField (oddId b 129) (λ e. field 24 refl) none)))))
+
+write-image-told : (b before : List ℕ) → Told (cond (eqb (unmeant b) 0) (writeLine (recordIn b) before) (refused 3 (unmeant b)))
+write-image-told b before = unless Told (eqb (unmeant b) 0) (write-told (recordIn b) before) (unmeant-told b)
+
+strike-value-told : (d n : ℕ) → Told (strikeValue d n)
+unfolding strikeValue
+strike-value-told d n = both Told (member d denominators) (both Told (lawfulStrike d n) (given _) (field 21 refl)) (field 20 refl)
+
+under-told : (d v : ℕ) {other : Answer Strike} → Told other → Told (formUnder d v other)
+under-told d v = both Told (eqb (v % unit d) 0 && lawfulStrike d (v / unit d)) (given _)
+
+strike-form-told : (v : ℕ) → Told (strikeForm v)
+unfolding strikeForm
+strike-form-told v = under-told 69 v (under-told 68 v (under-told 67 v (under-told 66 v (under-told 65 v (field 21 refl)))))
+
+clock-told : (ms : ℕ) → Told (clock ms)
+unfolding clock
+clock-told ms = both Told (leb ms 86399999) (given _) (field 1 refl)
+
+make-told : (before : List ℕ) → Told (makeAnswer before)
+make-told before =
+    both Told (ltb (length before) (tableLength 512)) (other NoRoom refl)
+    (both Told (eqb (length before) (tableLength 512)) (given tt) (other Damaged refl))
+
+place-told : (i : ℕ) → Told (placeOr8 i)
+place-told zero = other UnknownKey refl
+place-told (suc i) = given i
+
+look-up-told : (s k : List ℕ) → Told (lookUpAnswer s k)
+look-up-told s k =
+    both Told (sound s) (both Told (eqb (length k) 26) (place-told (place (keyIn k) (tableIn s .orders))) (other UnknownKey refl)) (other Damaged refl)
+
+copy-told : (s : List ℕ) (i : ℕ) (before : List ℕ) → Told (copyAnswer s i before)
+copy-told s i before =
+    both Told (sound s)
+    (both Told (ltb (length before) 80) (other NoRoom refl) (both Told (ltb i (countIn s)) (given tt) (other UnknownKey refl))) (other Damaged refl)
+
+sheet-told : (s before : List ℕ) → Told (sheetAnswer s before)
+unfolding sheetAnswer
+sheet-told s before = both Told (sound s) (both Told (ltb (length before) (length (textOf s))) (other NoRoom refl) (given _)) (other Damaged refl)
+
+-- a refusal of the day, if any
+abbrev OfDay : ℕ → Type 0
+OfDay n = eqb n 0 ≡ false → Told {A = Unit {0}} (refused n 0)
+
+day-told : (limit : ℕ) (t : Table) (x : Said) → OfDay (refusalOf limit t x)
+day-told limit t endOfDay = both OfDay (t .over) (λ e. other DayOver refl) none
+day-told limit t (line r) =
+    let older = not (isNew (r .event)) in
+    let theirs = find (subject r) (t .orders) in
+    both OfDay (t .over) (λ e. other DayOver refl)
+    (both OfDay (isMaker (r .event) && isFound (find (keyOf r) (t .orders))) (λ e. other KnownKey refl)
+    (both OfDay (older && not (isFound theirs)) (λ e. other UnknownKey refl)
+    (both OfDay (older && differs r theirs) (λ e. other OtherSeries refl)
+    (both OfDay (older && notOpen r theirs) (λ e. other NotOpen refl)
+    (both OfDay (older && notExecuted r theirs) (λ e. other NotExecuted refl)
+    (both OfDay (isMaker (r .event) && leb limit (length (t .orders))) (λ e. other Full refl) none))))))
+
+book-told : (s p : List ℕ) → Told (bookAnswer s p)
+unfolding bookAnswer
+book-told s p = both Told (sound s) (go (readLine p) (read-says p refl)) (other Damaged refl)
+  where
+    go : (a : Answer Said) → ReadSays p a → Told (bookRead (limitOf (length s)) (tableIn s) a .answer)
+    go (value x) h =
+        unless (λ (b : Booked). Told (b .answer)) (eqb (refusalOf (limitOf (length s)) (tableIn s) x) 0) (given tt)
+        (day-told (limitOf (length s)) (tableIn s) x)
+    go (refused n f) h = unread-told p h
+
+-- ---- what a refusal leaves
+
+-- an answer whose code is not 0 is refused
+refusal : {A : Type 0} (a : Answer A) {r : ℕ} → r ≡ codeOf a → Refuses r → (n : ℕ) × (f : ℕ) × (a ≡ refused n f)
+refusal (value x) e k = absurd (k e)
+refusal (refused n f) e k = (n, f, refl)
+
+-- so it leaves what a refusal leaves
+module _ {A : Type 0} (a : Answer A) {r : ℕ} (said : r ≡ codeOf a) (k : Refuses r) where
+  lent-stays : {B : Type 0} (left : Answer A → B) {before after : B} → ((n f : ℕ) → left (refused n f) ≡ before) → after ≡ left a → after ≡ before
+  lent-stays left same e = let (n, f, h) = refusal a said k in e ∙ ap left h ∙ same n f
+
+  number-stays : (of : A → ℕ) (before : ℕ) {after : ℕ} → after ≡ numberAfter of a before → after ≡ before
+  number-stays of before = lent-stays (λ b. numberAfter of b before) (λ n f. refl)
+
+pub demand1 : Demand1
+demand1 =
+    record {
+      read-answers = λ piece before kind r after kind' h.
+          told (both Told (ltb (length before) 138) (other NoRoom refl) (read-told piece)) (h .said);
+      write-answers = λ b before r after h.
+          told (both Told (ltb (length before) 140) (other NoRoom refl) (write-image-told b before)) (h .said);
+      strike-value-answers = λ d n v r v' h. told (strike-value-told d n) (h .said);
+      strike-form-answers = λ v d n r d' n' h. told (strike-form-told v) (h .said);
+      clock-answers = λ ms h m s t r h' m' s' t' p. told (clock-told ms) (p .said);
+      empty-table-answers = λ before r after h. told (make-told before) (h .said);
+      check-table-answers = λ table r h. rw (h .said) (both Answers (sound table) (inl refl) (inr (Damaged, refl, λ e. absurd (omega arith))));
+      find-order-answers = λ table key p r p' h. told (look-up-told table key) (h .said);
+      order-at-answers = λ table i before r after h. told (copy-told table i before) (h .said);
+      book-answers = λ before piece r after h. told (book-told before piece) (h .said);
+      sheet-answers = λ table before n r after n' h. told (sheet-told table before) (h .said);
+      next-piece-answers = λ text at r e' h. h .said;
+      read-stays = λ piece before kind r after kind' h k.
+          let a = readAnswer piece before in
+          (lent-stays a (h .said) k (λ a. recordAfter a before) (λ n f. refl) (h .out), number-stays a (h .said) k kindOf kind (h .told));
+      write-stays = λ b before r after h k. lent-stays (writeAnswer b before) (h .said) k (λ a. outAfter a (recordIn b) before) (λ n f. refl) (h .out);
+      strike-value-stays = λ d n v r v' h k. number-stays (strikeValue d n) (h .said) k (λ x. x) v (h .told);
+      strike-form-stays = λ v d n r d' n' h k. (
+        number-stays (strikeForm v) (h .said) k (λ (x : Strike). x .denominator) d (h .denominator),
+        number-stays (strikeForm v) (h .said) k (λ (x : Strike). x .digits) n (h .digits),
+      );
+      clock-stays = λ ms h m s t r h' m' s' t' p k. (
+        number-stays (clock ms) (p .said) k (λ (x : Clock). x .hours) h (p .hours),
+        number-stays (clock ms) (p .said) k (λ (x : Clock). x .minutes) m (p .minutes),
+        number-stays (clock ms) (p .said) k (λ (x : Clock). x .seconds) s (p .seconds),
+        number-stays (clock ms) (p .said) k (λ (x : Clock). x .milliseconds) t (p .milliseconds),
+      );
+      empty-table-stays = λ before r after h k. lent-stays (makeAnswer before) (h .said) k (λ a. madeFrom a before) (λ n f. refl) (h .out);
+      find-order-stays = λ table key p r p' h k. number-stays (lookUpAnswer table key) (h .said) k (λ x. x) p (h .told);
+      order-at-stays = λ table i before r after h k.
+          lent-stays (copyAnswer table i before) (h .said) k (λ a. copiedFrom a table i before) (λ n f. refl) (h .out);
+      book-stays = λ before piece r after h k. h .out ∙ refusal-stays before piece (sym (refusal (bookAnswer before piece) (h .said) k .2));
+      sheet-stays = λ table before n r after n' h k.
+          let a = sheetAnswer table before in
+          (lent-stays a (h .said) k (λ a. sheetFrom a table before) (λ n f. refl) (h .out), number-stays a (h .said) k (λ x. x) n (h .told));
+    }
