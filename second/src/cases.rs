@@ -1,13 +1,18 @@
-//! Cases for the trial: both sides of every bound, and random lines and records.
+//! Cases for the trial: both sides of every bound, and random lines and records. Those about records
+//! as bytes, tables and texts stand in modules of their own.
 
 use std::io::{self, Write};
 use std::ops::Range;
 
+use crate::hand::Hand;
 use crate::line::{justify, Field, Rule, BODY, CR_LF, DENOMINATOR, FIELDS, LETTERS, LINE, STRIKE, TYPE};
 use crate::random::Random;
-use crate::record::{self, Record};
+use crate::record::Record;
+use crate::record_cases;
+use crate::table_cases;
+use crate::text_cases;
+use crate::trial::LONGEST;
 
-const BUFFERS: [u16; 6] = [0, 1, 139, 140, 141, 300];
 /// Bytes that spoil digits: the neighbours of 0 and 9, signs, a point, letters, a space; and 0,
 /// which is unlawful only where it leads.
 const SPOILING: &[u8] = b" 0/:+-.Aa~";
@@ -28,8 +33,9 @@ pub fn put(out: &mut impl Write, kind: u8, payload: &[u8]) -> Written {
     out.write_all(payload)
 }
 
-pub fn write_payload(room: u16, stored: &[u8]) -> Vec<u8> {
-    [&room.to_le_bytes(), stored].concat()
+/// The length of a buffer, and what an entry is given beside it.
+pub fn room_payload(room: u16, given: &[u8]) -> Vec<u8> {
+    [&room.to_le_bytes(), given].concat()
 }
 
 pub fn strike_payload(code: u8, digits: u64) -> Vec<u8> {
@@ -55,8 +61,11 @@ pub fn write(seed: u64, count: u64, out: &mut impl Write) -> Written {
         put(out, b'n', &[b"lines of ".as_slice(), &[*letter]].concat())?;
         lines(&line, out)?;
         put(out, b'n', &[b"records of ".as_slice(), &[*letter]].concat())?;
-        records(&line, *letter, out)?;
+        record_cases::writes(&line, out)?;
+        record_cases::reads(&line, out)?;
     }
+    put(out, b'n', b"numbers of records")?;
+    record_cases::numbers_read(&lawful_line(b'E', random), out)?;
     put(out, b'n', b"every byte at every place")?;
     every_byte(&lawful_line(b'E', random), out)?;
     every_byte(&lawful_line(b'U', random), out)?;
@@ -67,7 +76,9 @@ pub fn write(seed: u64, count: u64, out: &mut impl Write) -> Written {
     put(out, b'n', b"bad cases")?;
     bad_cases(&lawful_line(b'E', random), out)?;
     put(out, b'n', b"random lines and records")?;
-    random_cases(count, random, out)
+    random_cases(count, random, out)?;
+    table_cases::write(count, random, &mut Hand::new(out))?;
+    text_cases::write(random, out)
 }
 
 // Lawful lines.
@@ -134,13 +145,13 @@ fn price(ten_thousandths: u64) -> Vec<u8> {
 // Contents of one field, lawful and unlawful.
 
 /// The content with each of its places given each of the bytes in turn.
-fn spoiled<'a>(content: &'a [u8], bytes: &'a [u8]) -> impl Iterator<Item = Vec<u8>> + 'a {
+pub fn spoiled<'a>(content: &'a [u8], bytes: &'a [u8]) -> impl Iterator<Item = Vec<u8>> + 'a {
     let places = 0..content.len();
     places.flat_map(move |at| bytes.iter().map(move |byte| with(content, at..at + 1, &[*byte])))
 }
 
 /// Both sides of the bounds of a field, of each length, of 32 and of 64 bits.
-fn numbers_around(field: &Field) -> Vec<u64> {
+pub fn numbers_around(field: &Field) -> Vec<u64> {
     let (least, most) = match field.rule {
         Rule::Number(least, most) | Rule::Digits(least, most) => (least, most),
         Rule::Price => (0, 9_999_999_999),
@@ -207,16 +218,8 @@ pub fn contents(field: &Field) -> Vec<Vec<u8>> {
     all
 }
 
-/// Contents for a field of a stored record.
-fn stored_contents(field: &Field) -> Vec<Vec<u8>> {
-    if !field.holds_number() {
-        return contents(field);
-    }
-    numbers_around(field).iter().map(|number| number.to_le_bytes().to_vec()).collect()
-}
-
 /// A content that breaks the field's rule on any type of line, and holds no foreign byte.
-fn broken(field: &Field) -> Vec<u8> {
+pub fn broken(field: &Field) -> Vec<u8> {
     let mut content = vec![b'~'; field.len];
     if matches!(field.rule, Rule::Text | Rule::TextOrBlank) {
         content[0] = b' ';
@@ -260,7 +263,7 @@ fn every_byte(line: &[u8], out: &mut impl Write) -> Written {
 
 fn lengths(line: &[u8], out: &mut impl Write) -> Written {
     let body = &line[..BODY];
-    let endless = body.repeat(30);
+    let endless = body.repeat(LONGEST / BODY + 1);
     for length in 0..=142 {
         put(out, b'r', &[line, b"AA"].concat()[..length])?;
         for ends in [b"".as_slice(), b"\n", CR_LF] {
@@ -279,45 +282,8 @@ fn lengths(line: &[u8], out: &mut impl Write) -> Written {
         }
     }
     put(out, b'r', &[line, line].concat())?;
-    put(out, b'r', &endless[..4_096])?;
-    put(out, b'r', &[&endless[..4_094], CR_LF].concat())
-}
-
-// Records.
-
-/// Every field of a record with each of its contents, into buffers of every size; the strike also
-/// under each code and its neighbours; and every two fields unlawful at once.
-fn records(line: &[u8], letter: u8, out: &mut impl Write) -> Written {
-    let stored = Record::of_line(line).stored().to_vec();
-    let mut rooms = BUFFERS.iter().cycle();
-    for room in BUFFERS {
-        put(out, b'w', &write_payload(room, &stored))?;
-    }
-    for field in &FIELDS {
-        for (content, room) in stored_contents(field).iter().zip(&mut rooms) {
-            let changed = with(&stored, record::places(field.number), content);
-            put(out, b'w', &write_payload(140, &changed))?;
-            put(out, b'w', &write_payload(*room, &changed))?;
-        }
-    }
-    for code in b'@'..=b'F' {
-        let stored = with(&stored, record::places(DENOMINATOR), &[code]);
-        for content in stored_contents(field(STRIKE)) {
-            put(out, b'w', &write_payload(140, &with(&stored, record::places(STRIKE), &content)))?;
-        }
-    }
-    // A record cannot be unlawful in its type, nor in liquidity and ids where its type has none;
-    // but the Replaced Token's bytes stand in every record.
-    let can_break = |field: &&Field| field.number != TYPE && (field.on.carries(letter) || field.number == 12);
-    let unlawful = |field: &Field| if field.holds_number() { vec![0xFF; 8] } else { broken(field) };
-    for first in FIELDS.iter().filter(can_break) {
-        let stored = with(&stored, record::places(first.number), &unlawful(first));
-        for second in FIELDS[first.number..].iter().filter(can_break) {
-            let stored = with(&stored, record::places(second.number), &unlawful(second));
-            put(out, b'w', &write_payload(140, &stored))?;
-        }
-    }
-    Ok(())
+    put(out, b'r', &endless[..LONGEST])?;
+    put(out, b'r', &[&endless[..LONGEST - CR_LF.len()], CR_LF].concat())
 }
 
 // Strikes, clocks and what is no case.
@@ -359,8 +325,8 @@ fn strikes_and_clocks(random: &mut Random, out: &mut impl Write) -> Written {
 
 /// Kinds and payloads that are no case. None of them ends the run.
 fn bad_cases(line: &[u8], out: &mut impl Write) -> Written {
-    for kind in *b"nrwsfk?Z\0\xFF" {
-        for length in [0, 1, 2, 7, 8, 9, 10, 150, 151, 152, 153, 4_096] {
+    for kind in *b"nriwsfktpedlobhxc?Z\0\xFF" {
+        for length in [0, 1, 2, 7, 8, 9, 10, 138, 139, 140, 141, 4_096] {
             put(out, kind, &vec![0; length])?;
         }
     }
@@ -368,32 +334,33 @@ fn bad_cases(line: &[u8], out: &mut impl Write) -> Written {
         put(out, b'n', name)?;
     }
     for room in [301, 302, 556, 65_535] {
-        put(out, b'w', &write_payload(room, Record::of_line(line).stored()))?;
+        put(out, b'i', &room_payload(room, line))?;
+        put(out, b'w', &room_payload(room, Record::of_line(line).stored()))?;
+        put(out, b'w', &room_payload(room, b""))?;
     }
     Ok(())
 }
 
 // Random cases.
 
-/// Lawful lines changed up to three times, and for each fourth a lawful record changed up to twice.
+/// Lawful lines changed up to three times; each fourth also as a record, its bytes being changed
+/// before it is written, or the line before its record is read.
 fn random_cases(count: u64, random: &mut Random, out: &mut impl Write) -> Written {
     let known: Vec<_> = FIELDS.iter().map(contents).collect();
-    let stored_known: Vec<_> = FIELDS.iter().map(stored_contents).collect();
+    let stored_known: Vec<_> = FIELDS.iter().map(record_cases::stored_contents).collect();
     for case in 0..count {
         let mut line = lawful_line(*random.pick(LETTERS), random);
-        if case % 4 == 0 {
-            let mut stored = Record::of_line(&line).stored().to_vec();
-            for _ in 0..random.below(3) {
-                let number = 1 + random.below(FIELDS.len());
-                stored = with(&stored, record::places(number), random.pick::<Vec<u8>>(&stored_known[number - 1]));
-            }
-            let room = if random.once_in(4) { *random.pick(&BUFFERS) } else { 140 };
-            put(out, b'w', &write_payload(room, &stored))?;
+        let as_record = case % 4 == 0;
+        if as_record {
+            record_cases::random_write(&line, &stored_known, random, out)?;
         }
         for _ in 0..random.below(4) {
             mutate(&mut line, &known, random);
         }
         put(out, b'r', &line)?;
+        if as_record {
+            record_cases::random_read(&line, random, out)?;
+        }
     }
     Ok(())
 }

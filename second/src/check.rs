@@ -1,23 +1,33 @@
 //! The program's own tests, by name: the papers' vectors first, then what follows from the rules.
 
 use std::io::{self, Write};
+use std::ops::Range;
 
-use crate::cases::{self, put, write_payload};
+use crate::cases::{self, put, room_payload};
 use crate::days;
-use crate::line::{self, Reading, CR_LF, FIELDS, LETTERS, LINE};
+use crate::line::{self, CR_LF, FIELDS, LETTERS, LINE, TIMESTAMP};
 use crate::random::Random;
-use crate::record::{places, Record};
+use crate::record::{Record, STORED};
 use crate::refusal::Refusal;
+use crate::shorthand::{executed, untraded, EXECUTED, NO_TOKEN};
 use crate::strike;
-use crate::trial;
-use crate::vectors::{self, executed, reads, refused_field, says, untraded, Vector, EXECUTED, NO_TOKEN};
+use crate::tables;
+use crate::trial::{self, Trial};
+use crate::vectors::{self, reads, refused_field, says, unwritten, Vector};
 
 /// Prints a line for each test; true if none failed.
 pub fn run(out: &mut impl Write) -> io::Result<bool> {
     let (mut passed, mut failed) = (0, 0);
-    let vectors = vectors::papers().into_iter().chain(more()).map(|vector| (vector.name, vector.holds()));
+    let mut trial = Trial::default();
+    let vectors = vectors::papers()
+        .into_iter()
+        .chain(vectors::records())
+        .chain(vectors::tables())
+        .chain(vectors::texts())
+        .chain(more())
+        .map(|vector| (vector.name, vector.holds(&mut trial)));
     let captures = days::captures().into_iter().map(|capture| (capture.name, capture.holds()));
-    let laws = laws().into_iter().chain(days::laws()).map(|(name, law)| (name, law()));
+    let laws = laws().into_iter().chain(days::laws()).chain(tables::laws()).map(|(name, law)| (name, law()));
     for (name, holds) in vectors.chain(captures).chain(laws) {
         writeln!(out, "{} {name}", if holds { "ok" } else { "FAILED" })?;
         *(if holds { &mut passed } else { &mut failed }) += 1;
@@ -26,19 +36,25 @@ pub fn run(out: &mut impl Write) -> io::Result<bool> {
     Ok(failed == 0)
 }
 
-/// A record whose stored bytes are changed in one field, written into 140 bytes.
-fn unwritten(name: &'static str, line: &[u8], field: usize, content: &[u8]) -> Vector {
-    let stored = cases::with(Record::of_line(line).stored(), places(field), content);
-    let words = format!("write 140 refused 3 field {field} [{}]", ".".repeat(140));
-    says(name, b'w', write_payload(140, &stored), &words)
+/// The record of a line with another number in one field, as bytes.
+fn with_number(line: &[u8], field: usize, number: u64) -> Vec<u8> {
+    let mut record = Record::of_line(line);
+    record.set_number(field, number);
+    record.stored().to_vec()
+}
+
+/// The same with other bytes.
+fn with_bytes(line: &[u8], field: usize, content: &[u8]) -> Vec<u8> {
+    let mut record = Record::of_line(line);
+    record.set(field, content);
+    record.stored().to_vec()
 }
 
 #[rustfmt::skip]
 fn more() -> Vec<Vector> {
-    let number = |number: u64| number.to_le_bytes();
     let line = executed(&[]);
+    let replaced = untraded("U", &[]);
     let record = Record::of_line(&line);
-    let accepted_with_ids = cases::with(record.stored(), places(2), b"A");
     let whole_line = format!("write 300 done [{}{}]", EXECUTED, ".".repeat(160));
     vec![
         refused_field("Liquidity on an A is 3, field 6", untraded("A", &[(6, "A")]), 6),
@@ -59,18 +75,16 @@ fn more() -> Vec<Vector> {
             &[" 7[    ] 8[     ] 9[     ] "]),
         reads("E 000001 is the least strike", executed(&[(20, "E"), (21, "000001")]), &[" 20[E] 21[000001] "]),
         reads("An id of 0 is one digit 0", executed(&[(23, "        0")]), &[" 23[        0] "]),
-        unwritten("Timestamp 86400000 isn't written", &line, 1, &number(86_400_000)),
-        unwritten("A bad text byte counts as its field", &line, 3, b"17\x7FC"),
-        unwritten("A Replaced Token on an E isn't written", &line, 12, b"T                   "),
-        unwritten("A blank Replaced Token on a U isn't written", &untraded("U", &[]), 12, NO_TOKEN.as_bytes()),
-        unwritten("Contracts of 1,000,000 aren't written", &line, 15, &number(1_000_000)),
-        unwritten("A strike below six digits under C isn't written", &line, 21, &number(99_999)),
-        unwritten("A price of 1,000,000 dollars isn't written", &line, 22, &number(10_000_000_000)),
-        unwritten("An id of ten digits isn't written", &line, 24, &number(1_000_000_000)),
-        unwritten("The most that a number can be isn't written", &line, 19, &number(u64::MAX)),
-        says("Writing changes only the first 140 bytes", b'w', write_payload(300, record.stored()), &whole_line),
-        says("Ids beside an A are no record", b'w', write_payload(140, &accepted_with_ids), "bad case"),
-        says("A buffer of 301 is a bad case", b'w', write_payload(301, record.stored()), "bad case"),
+        unwritten("Timestamp 86400000 isn't written", with_number(&line, 1, 86_400_000), 1),
+        unwritten("A bad text byte counts as its field", with_bytes(&line, 3, b"17\x7FC"), 3),
+        unwritten("A Replaced Token on an E isn't written", with_bytes(&line, 12, b"T                   "), 12),
+        unwritten("A blank Replaced Token on a U isn't written", with_bytes(&replaced, 12, NO_TOKEN.as_bytes()), 12),
+        unwritten("Contracts of 1,000,000 aren't written", with_number(&line, 15, 1_000_000), 15),
+        unwritten("A strike below six digits under C isn't written", with_number(&line, 21, 99_999), 21),
+        unwritten("A price of 1,000,000 dollars isn't written", with_number(&line, 22, 10_000_000_000), 22),
+        unwritten("An id of ten digits isn't written", with_number(&line, 24, 1_000_000_000), 24),
+        unwritten("A year of three digits isn't written", with_number(&line, 19, 100), 19),
+        says("Writing changes only the first 140 bytes", b'w', room_payload(300, record.stored()), &whole_line),
         says("A name with LF is a bad case", b'n', b"a\nb".to_vec(), "bad case"),
         says("A kind that is not listed is a bad case", b'?', vec![], "bad case"),
         says("A strike without its number is a bad case", b's', b"A".to_vec(), "bad case"),
@@ -80,15 +94,19 @@ fn more() -> Vec<Vector> {
 /// A law that runs over many values.
 pub type Law = (&'static str, fn() -> bool);
 
-fn laws() -> [Law; 7] {
+fn laws() -> [Law; 11] {
     [
         ("The fields lie one behind another over 138 bytes", fields_lie_in_a_row),
         ("Each code is one of its list, each hex digit one of 0-9 A-F", codes_are_of_their_lists),
+        ("Of any two broken fields the first is named", first_fields_are_named),
         ("Every length but 2 and 140 is 1", other_lengths_are_refused),
         ("Each strike value has one form", strikes_have_one_form),
         ("A thousand random lawful lines of each type come back", lawful_lines_come_back),
+        ("A record's bytes and numbers are those of its line", records_say_their_lines),
+        ("Bytes without meaning, and no others, come before the rules", meanings_come_first),
+        ("A record of another length is 3, field 24", other_records_are_refused),
         ("Input that ends inside a case ends the run", cut_input_ends_the_run),
-        ("A payload of 4,097 bytes ends the run", a_long_case_ends_the_run),
+        ("A payload of 65,537 bytes ends the run", a_long_case_ends_the_run),
     ]
 }
 
@@ -114,6 +132,16 @@ fn codes_are_of_their_lists() -> bool {
     })
 }
 
+fn first_fields_are_named() -> bool {
+    FIELDS.iter().all(|first| {
+        let line = cases::with(EXECUTED.as_bytes(), first.places(), &cases::broken(first));
+        FIELDS[first.number..].iter().all(|second| {
+            let piece = cases::with(&line, second.places(), &cases::broken(second));
+            matches!(line::read(&piece), Err(Refusal::Field(named)) if named == first.number)
+        })
+    })
+}
+
 fn other_lengths_are_refused() -> bool {
     (0..=400).filter(|length| *length != CR_LF.len() && *length != LINE).all(|length| {
         let mut piece = vec![b' '; length];
@@ -131,15 +159,74 @@ fn strikes_have_one_form() -> bool {
     })
 }
 
-fn lawful_lines_come_back() -> bool {
+/// A thousand random lawful lines of each type.
+fn lawful_lines() -> impl Iterator<Item = Vec<u8>> {
     let mut random = Random::new(1);
+    LETTERS.iter().flat_map(|letter| [letter; 1_000]).map(move |letter| cases::lawful_line(*letter, &mut random))
+}
+
+fn lawful_lines_come_back() -> bool {
+    lawful_lines().all(|piece| {
+        let mut record = [0; STORED];
+        let mut buffer = [0; LINE];
+        let read = line::read_into(&piece, &mut record);
+        read.is_ok() && line::write(&record, &mut buffer).is_ok() && buffer[..] == piece[..]
+    })
+}
+
+/// Whether each field is its bytes, or its digits as a number, by the places that 01 prints.
+fn records_say_their_lines() -> bool {
+    let numbers = [0..8, 86..92, 99..101, 101..103, 104..110, 110..120, 120..129, 129..138];
+    lawful_lines().all(|piece| {
+        let mut record = [0; STORED];
+        let read = line::read_into(&piece, &mut record).is_ok();
+        let is_number = |place: &Range<usize>| {
+            let little_end_first = record[place.clone()].iter().rev();
+            let number = little_end_first.fold(0, |number, byte| number << 8 | u128::from(*byte));
+            let digits = String::from_utf8_lossy(&piece[place.clone()]);
+            digits.trim().parse().unwrap_or(0_u128) == number
+        };
+        let others = (0..STORED).filter(|place| !numbers.iter().any(|number| number.contains(place)));
+        read && numbers.iter().all(is_number) && others.into_iter().all(|place| record[place] == piece[place])
+    })
+}
+
+/// The field of the first byte without meaning, as LAYOUT lists them.
+fn meaningless(record: &[u8; STORED]) -> Option<usize> {
+    let trades = matches!(record[8], b'E' | b'C');
+    let holds = |places: Range<usize>| record[places].iter().any(|byte| *byte != 0);
+    let listed = [
+        (2, !b"AEXCUR".contains(&record[8])),
+        (6, !trades && record[15] != b' '),
+        (22, holds(118..120)),
+        (23, holds(128..129) || !trades && holds(120..128)),
+        (24, holds(137..138) || !trades && holds(129..137)),
+    ];
+    listed.into_iter().find(|(_, without)| *without).map(|(field, _)| field)
+}
+
+/// Every byte at every place of records that break the first of all rules.
+fn meanings_come_first() -> bool {
+    let mut random = Random::new(2);
     LETTERS.iter().all(|letter| {
-        (0..1_000).all(|_| {
-            let piece = cases::lawful_line(*letter, &mut random);
-            let mut buffer = [0; LINE];
-            let Ok(Reading::Record(record)) = line::read(&piece) else { return false };
-            line::write(&record, &mut buffer).is_ok() && buffer[..] == piece[..]
+        let mut record = Record::of_line(&cases::lawful_line(*letter, &mut random));
+        record.set_number(TIMESTAMP, u64::MAX);
+        (0..STORED).all(|place| {
+            let mut stored = *record.stored();
+            (0..=255).all(|byte| {
+                stored[place] = byte;
+                let field = meaningless(&stored).unwrap_or(TIMESTAMP);
+                line::write(&stored, &mut [0; LINE]) == Err(Refusal::Field(field))
+            })
         })
+    })
+}
+
+fn other_records_are_refused() -> bool {
+    let stored = Record::of_line(&executed(&[])).stored().repeat(3);
+    (0..=stored.len()).filter(|length| *length != STORED).all(|length| {
+        line::write(&stored[..length], &mut [0; LINE]) == Err(Refusal::Field(24))
+            && line::write(&stored[..length], &mut [0; LINE - 1]) == Err(Refusal::Buffer)
     })
 }
 
@@ -163,7 +250,7 @@ fn cut_input_ends_the_run() -> bool {
 
 fn a_long_case_ends_the_run() -> bool {
     let mut cases = two_names();
-    put(&mut cases, b'n', &[b'x'; 4_097]).expect("memory takes every byte");
+    put(&mut cases, b'n', &[b'x'; trial::LONGEST + 1]).expect("memory takes every byte");
     cases.extend(two_names());
     trial_of(&cases) == b"== one\n== two\ncase too long\n"
 }

@@ -7,6 +7,8 @@ use crate::refusal::Refusal;
 
 /// The most orders that a table holds.
 pub const MOST: usize = 512;
+/// The largest size of an order.
+pub const MOST_CONTRACTS: u32 = 999_999;
 
 /// The six Source bytes, then the twenty Token bytes.
 pub type Key = [u8; SOURCE_BYTES + TOKEN_BYTES];
@@ -26,6 +28,16 @@ pub struct Figures {
     pub cancelled: u32,
     pub passed_on: u32,
     pub open: u32,
+}
+
+impl Figures {
+    /// Whether the size is lawful and the sum of its parts, and no more is broken than executed. The
+    /// figures may be any that a u32 can say.
+    pub fn add_up(self) -> bool {
+        let parts = [self.executed, self.cancelled, self.passed_on, self.open];
+        let sum: u64 = parts.into_iter().map(u64::from).sum();
+        (1..=MOST_CONTRACTS).contains(&self.size) && self.broken <= self.executed && sum == u64::from(self.size)
+    }
 }
 
 #[derive(Clone, Debug, PartialEq, Eq)]
@@ -55,12 +67,21 @@ impl Order {
 pub struct Day {
     /// In the order of their acceptance.
     orders: Vec<Order>,
-    /// The place of each order. No key is ever freed, and no two orders share one.
+    /// The place of the earliest order with each key. No key is ever freed.
     places: HashMap<Key, usize>,
     over: bool,
 }
 
 impl Day {
+    /// The day with these orders, which may repeat a key.
+    pub fn of(orders: Vec<Order>, over: bool) -> Day {
+        let mut places = HashMap::with_capacity(orders.len());
+        for (place, order) in orders.iter().enumerate() {
+            places.entry(order.key).or_insert(place);
+        }
+        Day { orders, places, over }
+    }
+
     pub fn orders(&self) -> &[Order] {
         &self.orders
     }

@@ -7,15 +7,12 @@ use std::io::{self, BufReader, ErrorKind, Read};
 use crate::check::Law;
 use crate::day::{Day, Figures, MOST};
 use crate::line::{CR_LF, LF, LINE};
+use crate::long_day;
 use crate::refusal::Refusal;
 use crate::sheet;
+use crate::shorthand::{capture, other, piece, OTHERS, WHOLE_CASE};
 use crate::stream;
-use crate::vectors::{executed, untraded, with};
 
-const WHOLE_CASE: &str = "A T1 100; E T1 30; U T2 for T1, 60; A T9 5; X T2 10; C T1 30; U T1 for T2, 50; end of day";
-/// Side, then the fields of the series, each with another lawful content.
-const OTHERS: [(usize, &str); 7] =
-    [(14, "S"), (16, "MSFT1 "), (17, "S"), (18, "28"), (19, "10"), (20, "D"), (21, "205751")];
 /// The streams of the laws.
 const SEEDS: u64 = 12;
 const PIECES: usize = 3_000;
@@ -46,37 +43,6 @@ fn printed_of(text: impl Read, chunk: usize) -> String {
     let mut said = Vec::new();
     sheet::run(&mut BufReader::with_capacity(chunk, text), &mut said).expect("memory takes every byte");
     String::from_utf8(said).expect("keys are printable")
-}
-
-/// The pieces of the papers' shorthand: `A T1 100; U T2 for T1, 60; end of day`.
-fn capture(words: &str) -> Vec<u8> {
-    words.split("; ").flat_map(piece).collect()
-}
-
-fn piece(words: &str) -> Vec<u8> {
-    let words: Vec<_> = words.split([' ', ',']).filter(|word| !word.is_empty()).collect();
-    match words[..] {
-        ["end", "of", "day"] => CR_LF.to_vec(),
-        [letter, token, "for", elder, contracts] => line(letter, token, elder, contracts),
-        [letter, token, contracts] => line(letter, token, "", contracts),
-        _ => panic!("no piece: {words:?}"),
-    }
-}
-
-/// A line of Source ABCD01, of one series and side.
-fn line(letter: &str, token: &str, elder: &str, contracts: &str) -> Vec<u8> {
-    let (token, elder, contracts) = (format!("{token:<20}"), format!("{elder:<20}"), format!("{contracts:>6}"));
-    let changes = [(2, letter), (11, &token), (12, &elder), (15, &contracts)];
-    if matches!(letter, "E" | "C") {
-        executed(&changes)
-    } else {
-        untraded(letter, &changes)
-    }
-}
-
-/// A piece of the shorthand with another content in some fields.
-fn other(words: &str, changes: &[(usize, &str)]) -> Vec<u8> {
-    with(&piece(words), changes)
 }
 
 #[rustfmt::skip]
@@ -187,7 +153,7 @@ pub fn captures() -> Vec<Capture> {
     ]
 }
 
-pub fn laws() -> [Law; 13] {
+pub fn laws() -> [Law; 14] {
     [
         ("Another side or series is 9 on E, C, X, R and U, whichever field differs", others_are_refused),
         ("Order 512 is taken, order 513 is 12, and 12 comes after all others", a_table_fills),
@@ -202,6 +168,7 @@ pub fn laws() -> [Law; 13] {
         ("Every order is listed once", orders_are_listed_once),
         ("Families come by the acceptance of their first order, each from eldest to youngest", families_come_in_order),
         ("The accepted lines alone give the same sheet and no refusal", accepted_lines_suffice),
+        ("A long day is accepted to its last line", long_days_are_accepted),
     ]
 }
 
@@ -312,9 +279,7 @@ fn booked(text: &[u8]) -> (Day, Vec<&[u8]>) {
 }
 
 fn sheet_of(day: &Day) -> String {
-    let mut said = Vec::new();
-    sheet::write(day, &mut said).expect("memory takes every byte");
-    String::from_utf8(said).expect("keys are printable")
+    String::from_utf8(sheet::text(day)).expect("keys are printable")
 }
 
 fn streams_hold_everything() -> bool {
@@ -445,5 +410,18 @@ fn accepted_lines_suffice() -> bool {
         let all = printed(&text);
         let sheet = all.lines().skip_while(|line| line.starts_with("line ")).map(|line| format!("{line}\n"));
         printed(&accepted.concat()) == sheet.collect::<String>()
+    })
+}
+
+/// Whether all lines of long days are accepted, and whether the longer ones have all types and orders.
+fn long_days_are_accepted() -> bool {
+    [0, 1, 2, 100, 2_000, 20_000].into_iter().zip(1..).all(|(count, seed)| {
+        let mut text = Vec::new();
+        long_day::write(seed, count, &mut text).expect("memory takes every byte");
+        let (day, accepted) = booked(&text);
+        let types: BTreeSet<_> = accepted.iter().map(|piece| piece[8]).collect();
+        let whole = accepted.len() == count as usize && text.len() == LINE * accepted.len();
+        let full = day.orders().len() == 500 && types.into_iter().eq(*b"ACERUX");
+        whole && !day.is_over() && (full || count < 2_000)
     })
 }

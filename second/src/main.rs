@@ -4,15 +4,25 @@
 mod cases;
 mod check;
 mod clock;
+mod damages;
 mod day;
 mod days;
+mod hand;
 mod line;
+mod long_day;
 mod random;
 mod record;
+mod record_cases;
 mod refusal;
 mod sheet;
+mod shorthand;
 mod stream;
 mod strike;
+mod sum;
+mod table;
+mod table_cases;
+mod tables;
+mod text_cases;
 mod trial;
 mod vectors;
 
@@ -21,8 +31,8 @@ use std::io::{self, BufReader, BufWriter, Write};
 use std::process::ExitCode;
 
 const USAGE: &str = "\
-usage: second sheet < CAPTURE | second stream SEED COUNT | second trial < CASES | second cases SEED COUNT |
-       second vectors | second check";
+usage: second sheet < CAPTURE | second stream SEED COUNT | second day SEED COUNT | second trial < CASES |
+       second cases SEED COUNT | second vectors | second check";
 const BUFFER: usize = 1 << 16;
 
 fn main() -> ExitCode {
@@ -47,6 +57,10 @@ fn command(words: &[&str], output: &mut impl Write) -> io::Result<ExitCode> {
         ["stream", seed, count] => {
             let (Ok(seed), Ok(count)) = (seed.parse(), count.parse()) else { return Ok(usage()) };
             stream::write(seed, count, output)?;
+        }
+        ["day", seed, count] => {
+            let (Ok(seed), Ok(count)) = (seed.parse(), count.parse()) else { return Ok(usage()) };
+            long_day::write(seed, count, output)?;
         }
         ["trial"] => {
             let mut input = BufReader::with_capacity(BUFFER, io::stdin().lock());

@@ -1,47 +1,73 @@
-//! A record: the 24 fields of one event, kept as its 150 bytes (LAYOUT, A record).
+//! A record: the 24 fields of one event, kept as its 138 bytes (LAYOUT, A record).
 
-use std::ops::Range;
+use crate::line::{self, Field, BODY, CROSS_ID, FIELDS, LETTERS, LIQUIDITY, MATCH_ID, TYPE};
+use crate::refusal::Refusal;
 
-use crate::line::{self, On, CROSS_ID, FIELDS, LETTERS, LIQUIDITY, MATCH_ID, TYPE};
-
-pub const STORED: usize = 150;
-
-/// Where each of the 24 fields begins, and where the last one ends.
-const AT: [usize; 25] =
-    [0, 8, 9, 13, 14, 15, 16, 20, 25, 30, 36, 56, 76, 85, 86, 94, 100, 101, 109, 117, 118, 126, 134, 142, STORED];
-
-/// The places of a field, by number.
-pub fn places(field: usize) -> Range<usize> {
-    AT[field - 1]..AT[field]
-}
+/// As many bytes as a line has fields' bytes: each field stands where it stands there.
+pub const STORED: usize = BODY;
+/// The bytes of a number. A wider field's last bytes mean nothing, and must be 0.
+pub const NUMBER: usize = 8;
 
 /// Holds the fields as they were given. Whether they are lawful shows when it is written.
+#[derive(Clone)]
 pub struct Record([u8; STORED]);
 
 impl Record {
-    /// The record that the bytes say. Nothing if no record says them: an unknown type letter, or
-    /// liquidity or ids beside a type that carries none (TRIAL, the last paragraph).
-    pub fn load(bytes: [u8; STORED]) -> Option<Record> {
+    /// The record that the bytes say. A byte without meaning is refused by its field, and before all
+    /// of them another length, which leaves no whole last field or bytes behind it.
+    pub fn load(bytes: &[u8]) -> Result<Record, Refusal> {
+        let Ok(bytes) = bytes.try_into() else { return Err(Refusal::Field(CROSS_ID)) };
         let record = Record(bytes);
-        let bare = record.bytes(LIQUIDITY) == b" " && record.number(MATCH_ID) == 0 && record.number(CROSS_ID) == 0;
-        let fits_type = bare || On::Trade.carries(record.letter());
-        (LETTERS.contains(&record.letter()) && fits_type).then_some(record)
+        match FIELDS.iter().find(|field| !record.has_meaning(field)) {
+            Some(field) => Err(Refusal::Field(field.number)),
+            None => Ok(record),
+        }
+    }
+
+    /// Whether every byte of a field has a meaning, lawful or not, all earlier ones having theirs.
+    fn has_meaning(&self, field: &Field) -> bool {
+        let bytes = self.bytes(field.number);
+        let zero = |bytes: &[u8]| bytes.iter().all(|byte| *byte == 0);
+        match field.number {
+            TYPE => LETTERS.contains(&self.letter()),
+            LIQUIDITY if !field.on.carries(self.letter()) => bytes == b" ",
+            MATCH_ID | CROSS_ID if !field.on.carries(self.letter()) => zero(bytes),
+            _ if field.holds_number() && field.len > NUMBER => zero(&bytes[NUMBER..]),
+            _ => true,
+        }
     }
 
     /// The record of a line that keeps every rule. A missing number is kept as 0.
     pub fn of_line(line: &[u8]) -> Record {
-        let mut record = Record([0; STORED]);
+        let mut record = Record::unknown();
         for field in &FIELDS {
             let shown = &line[field.places()];
-            let place = &mut record.0[places(field.number)];
             if field.holds_number() {
                 // Right for a price too: without the spaces its bytes are the ten-thousandths.
-                place.copy_from_slice(&line::decimal(shown).to_le_bytes());
+                record.set_number(field.number, line::decimal(shown));
             } else {
-                place.copy_from_slice(shown);
+                record.set(field.number, shown);
             }
         }
         record
+    }
+
+    /// A record of which nothing is known yet: every byte is 0.
+    pub fn unknown() -> Record {
+        Record([0; STORED])
+    }
+
+    /// Gives a field its bytes, or its number in as many bytes as are given, little end first.
+    pub fn set(&mut self, field: usize, content: &[u8]) {
+        let (known, rest) = self.0[FIELDS[field - 1].places()].split_at_mut(content.len());
+        known.copy_from_slice(content);
+        rest.fill(0);
+    }
+
+    /// Gives a field its number, which must not be wider than the field.
+    pub fn set_number(&mut self, field: usize, number: u64) {
+        let width = FIELDS[field - 1].len.min(NUMBER);
+        self.set(field, &number.to_le_bytes()[..width]);
     }
 
     pub fn stored(&self) -> &[u8; STORED] {
@@ -53,11 +79,11 @@ impl Record {
     }
 
     pub fn bytes(&self, field: usize) -> &[u8] {
-        &self.0[places(field)]
+        &self.0[FIELDS[field - 1].places()]
     }
 
     pub fn number(&self, field: usize) -> u64 {
-        let little_end_first = self.bytes(field).iter().rev();
+        let little_end_first = self.bytes(field).iter().take(NUMBER).rev();
         little_end_first.fold(0, |number, byte| number << 8 | u64::from(*byte))
     }
 }

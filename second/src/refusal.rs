@@ -3,13 +3,13 @@
 use std::fmt;
 
 /// Why nothing was done. A `Field` carries the number of the first field that breaks its rule.
-/// There is no 5: this program takes no table from outside, and one reached from empty is whole.
 #[derive(Clone, Copy, Debug, PartialEq, Eq)]
 pub enum Refusal {
     Piece,
     Byte,
     Field(usize),
     Buffer,
+    Damaged,
     DayOver,
     KnownKey,
     UnknownKey,
@@ -26,6 +26,7 @@ impl Refusal {
             Refusal::Byte => 2,
             Refusal::Field(_) => 3,
             Refusal::Buffer => 4,
+            Refusal::Damaged => 5,
             Refusal::DayOver => 6,
             Refusal::KnownKey => 7,
             Refusal::UnknownKey => 8,

@@ -96,6 +96,13 @@ pub fn write(day: &Day, out: &mut impl Write) -> io::Result<()> {
     Ok(())
 }
 
+/// The sheet as one text.
+pub fn text(day: &Day) -> Vec<u8> {
+    let mut text = Vec::new();
+    write(day, &mut text).expect("memory takes every byte");
+    text
+}
+
 /// Writes what follows family and place in a row.
 fn write_order(order: &Order, out: &mut impl Write) -> io::Result<()> {
     let figures = order.figures;

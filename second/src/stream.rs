@@ -4,40 +4,40 @@
 use std::io::{self, Write};
 
 use crate::cases::{self, lawful_content, lawful_line, EDGES};
-use crate::day::{Day, Figures, Key, Order, Series, MOST};
-use crate::line::{BODY, CONTRACTS, CR_LF, FIELDS, LF, LINE, REPLACED_TOKEN, ROOT, SIDE, SOURCE, STRIKE};
+use crate::day::{Day, Figures, Key, Order, Series, MOST, MOST_CONTRACTS};
+use crate::line::{self, BODY, CONTRACTS, CR_LF, FIELDS, LF, LINE, REPLACED_TOKEN, ROOT, SIDE, SOURCE, STRIKE};
 use crate::random::Random;
 
 /// One of them with an inner space, one nearly all padding.
 const SOURCES: [&[u8; 6]; 4] = [b"ABCD01", b"ABCD02", b"A B~! ", b"A     "];
 /// For each Source, and more than a table holds, so that a new one is soon found.
 const TOKENS: usize = 700;
-const MOST_CONTRACTS: u32 = 999_999;
+/// The longest piece of a capture, or little less.
 const LONGEST: usize = 100_000;
 /// The fields in which a line must agree with its order.
 const AGREED: [usize; 7] = [SIDE, 16, 17, 18, 19, 20, 21];
 
 /// Writes a capture of about so many pieces.
 pub fn write(seed: u64, count: usize, out: &mut impl Write) -> io::Result<()> {
-    let mut stream = Stream::new(seed, count);
-    while stream.pieces < count {
-        let bytes = stream.next();
-        stream.book(&bytes);
+    let mut stream = Stream::on(Day::default(), seed, count, LONGEST);
+    for bytes in &mut stream {
         out.write_all(&bytes)?;
     }
-    if count > 0 && stream.random.once_in(3) {
-        out.write_all(&stream.cut_short())?;
-    }
-    Ok(())
+    out.write_all(&stream.rest())
 }
 
-struct Stream {
+/// Gives one piece after another, or a few at once.
+pub struct Stream {
     random: Random,
     /// Books what is written, so that the next piece can be meant for an order as it stands.
     day: Day,
     /// How many pieces were written, and how many there are to be.
     pieces: usize,
     count: usize,
+    /// How many orders the day had before.
+    given: usize,
+    /// How long a piece of rubbish is to be at most, or little more.
+    longest: usize,
     /// After how many pieces the table is to be full.
     full: usize,
     /// One new order in so many begins a family.
@@ -51,8 +51,22 @@ struct Stream {
     last: Vec<u8>,
 }
 
+impl Iterator for Stream {
+    type Item = Vec<u8>;
+
+    fn next(&mut self) -> Option<Vec<u8>> {
+        if self.pieces >= self.count {
+            return None;
+        }
+        let bytes = self.choose();
+        self.book(&bytes);
+        Some(bytes)
+    }
+}
+
 impl Stream {
-    fn new(seed: u64, count: usize) -> Stream {
+    /// A stream of about so many pieces for a day that may have begun.
+    pub fn on(day: Day, seed: u64, count: usize, longest: usize) -> Stream {
         let mut random = Random::new(seed);
         let full = 1 + *random.pick(&[count / 8, count / 2, count, count * 2]);
         let founding = *random.pick(&[2, 8, 64]);
@@ -63,8 +77,23 @@ impl Stream {
         };
         let series = alike_series(&mut random);
         let contents = FIELDS.iter().map(cases::contents).collect();
-        let (day, last) = (Day::default(), Vec::new());
-        Stream { random, day, pieces: 0, count, full, founding, end, series, contents, last }
+        let (given, last) = (day.orders().len(), Vec::new());
+        Stream { random, day, pieces: 0, count, given, longest, full, founding, end, series, contents, last }
+    }
+
+    /// The day after the pieces so far.
+    pub fn day(&self) -> &Day {
+        &self.day
+    }
+
+    /// What follows the last piece: nothing, or now and then a piece that was broken off.
+    pub fn rest(&mut self) -> Vec<u8> {
+        if self.count == 0 || !self.random.once_in(3) {
+            return vec![];
+        }
+        let line = self.lawful();
+        let anywhere = self.random.below(LINE);
+        line[..*self.random.pick(&[LINE - 1, BODY, anywhere])].to_vec()
     }
 
     fn book(&mut self, bytes: &[u8]) {
@@ -75,7 +104,7 @@ impl Stream {
         }
     }
 
-    fn next(&mut self) -> Vec<u8> {
+    fn choose(&mut self) -> Vec<u8> {
         if self.pieces >= self.end && !self.day.is_over() {
             return CR_LF.to_vec();
         }
@@ -100,8 +129,10 @@ impl Stream {
     /// A line that is booked unless the day is over or no order is left for it.
     fn lawful(&mut self) -> Vec<u8> {
         let orders = self.day.orders().len();
-        let due = self.pieces * MOST / self.full;
-        self.last = if orders < MOST && orders <= due { self.new_order() } else { self.event() };
+        let due = self.given + self.pieces * (MOST - self.given) / self.full;
+        // Half the lines are events even when orders are long due.
+        let grows = orders == 0 || orders < MOST && orders <= due && self.random.once_in(2);
+        self.last = if grows { self.new_order() } else { self.event() };
         self.last.clone()
     }
 
@@ -289,11 +320,11 @@ impl Stream {
             // Long pieces, which both begin and end like a line.
             9 => [body.repeat(self.random.below(8)), line].concat(),
             10 => {
-                let most = LONGEST >> self.random.below(10);
-                [body.repeat(self.random.below(most / BODY)), line].concat()
+                let most = self.longest >> self.random.below(10);
+                [body.repeat(self.random.below((most / BODY).max(1))), line].concat()
             }
             _ => {
-                let most = LONGEST >> self.random.below(10);
+                let most = self.longest >> self.random.below(10);
                 vec![self.random.any() as u8 | 0x80; self.random.below(most)]
             }
         })
@@ -307,13 +338,6 @@ impl Stream {
         let byte = |_| if telling { *random.pick(EDGES) } else { random.next() as u8 };
         (0..length).map(byte).collect()
     }
-
-    /// The last piece of a capture that was broken off.
-    fn cut_short(&mut self) -> Vec<u8> {
-        let line = self.lawful();
-        let anywhere = self.random.below(LINE);
-        line[..*self.random.pick(&[LINE - 1, BODY, anywhere])].to_vec()
-    }
 }
 
 /// A few series, each unlike the first in one field at most.
@@ -323,7 +347,7 @@ fn alike_series(random: &mut Random) -> Vec<Series> {
     lay(&mut line, STRIKE, &lawful_content(&FIELDS[STRIKE - 1], random));
     let series = |line: &[u8]| {
         let mut series = [0; 18];
-        series.copy_from_slice(&line[FIELDS[ROOT - 1].at..FIELDS[STRIKE - 1].places().end]);
+        series.copy_from_slice(&line[line::places(ROOT, STRIKE)]);
         series
     };
     let mut all = vec![series(&line)];

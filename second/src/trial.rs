@@ -1,23 +1,36 @@
 //! The trial: reads cases and prints the answers (TRIAL).
 
 use std::io::{self, ErrorKind, Read, Write};
+use std::ops::RangeInclusive;
 
 use crate::clock;
-use crate::line::{self, Reading, FIELDS};
+use crate::line::{self, Reading, FIELDS, LF};
 use crate::record::Record;
+use crate::refusal::Refusal;
+use crate::sheet;
 use crate::strike;
+use crate::sum::sum;
+use crate::table;
 
-/// The longest payload, and the longest buffer that a `w` case may ask for.
-const LONGEST: usize = 4_096;
+/// The longest payload.
+pub const LONGEST: usize = 65_536;
+/// The longest buffer that an `i`, `w` or `o` case may ask for, and the longest for a sheet.
 const WIDEST: usize = 300;
+pub const WIDEST_SHEET: usize = 60_000;
+/// The longest table in hand.
+pub const LONGEST_TABLE: usize = 41_100;
+/// What a step of the sheet program may write.
+const ROOMS: RangeInclusive<u32> = 64..=60_000;
 /// The buffers that a record is written back into after it was read.
 const WRITTEN_BACK: [usize; 4] = [0, 139, 140, 152];
-/// What a buffer is filled with before the write.
+/// What a buffer is filled with before an entry is called, and what the kind of a piece is before.
 const UNTOUCHED: u8 = b'.';
+const UNTOLD: u8 = 7;
 
 /// Answers case after case until the input ends, or a case is too long.
 pub fn run(input: &mut impl Read, output: &mut impl Write) -> io::Result<()> {
-    let mut payload = [0; LONGEST];
+    let mut trial = Trial::default();
+    let mut payload = vec![0; LONGEST];
     let mut said = Vec::new();
     let mut head = [0; 5];
     while filled(input, &mut head)? {
@@ -31,7 +44,7 @@ pub fn run(input: &mut impl Read, output: &mut impl Write) -> io::Result<()> {
             break;
         }
         said.clear();
-        answer(kind, &payload[..length], &mut said);
+        trial.answer(kind, &payload[..length], &mut said);
         output.write_all(&said)?;
     }
     output.flush()
@@ -46,24 +59,64 @@ fn filled(input: &mut impl Read, place: &mut [u8]) -> io::Result<bool> {
     }
 }
 
-/// Prints the answer to one case. Each kind says nothing to a payload that it cannot understand.
-pub fn answer(kind: u8, payload: &[u8], out: &mut Vec<u8>) {
-    let understood = match kind {
-        b'n' => name(payload, out),
-        b'r' => read(payload, out),
-        b'w' => write(payload, out),
-        b's' => strike_value(payload, out),
-        b'f' => strike_form(payload, out),
-        b'k' => clock_time(payload, out),
-        _ => None,
-    };
-    if understood.is_none() {
-        say(out, "bad case\n");
+/// What goes from case to case.
+#[derive(Default)]
+pub struct Trial {
+    /// The table in hand.
+    table: Vec<u8>,
+}
+
+impl Trial {
+    /// Prints the answer to one case. Each kind says nothing to a payload that it cannot understand.
+    pub fn answer(&mut self, kind: u8, payload: &[u8], out: &mut Vec<u8>) {
+        let understood = match kind {
+            b'n' => name(payload, out),
+            b'r' => read(payload, out),
+            b'i' => read_into(payload, out),
+            b'w' => write(payload, out),
+            b's' => strike_value(payload, out),
+            b'f' => strike_form(payload, out),
+            b'k' => clock_time(payload, out),
+            b't' => self.take(payload, out),
+            b'p' => self.patch(payload, out),
+            b'e' => self.make_empty(payload, out),
+            b'd' => self.damage(payload, out),
+            b'l' => self.look_up(payload, out),
+            b'o' => self.order(payload, out),
+            b'b' => self.book(payload, out),
+            b'h' => self.sheet(payload, out),
+            b'x' => next_piece(payload, out),
+            b'c' => fed(payload, out),
+            _ => None,
+        };
+        if understood.is_none() {
+            say(out, "bad case\n");
+        }
     }
 }
 
 fn say(out: &mut Vec<u8>, words: &str) {
     out.extend_from_slice(words.as_bytes());
+}
+
+/// What an entry that answers no value says.
+fn outcome(result: Result<(), Refusal>) -> String {
+    result.map_or_else(|refusal| refusal.to_string(), |()| "done".to_string())
+}
+
+/// Says some words, and in square brackets all that a buffer holds.
+fn say_buffer(out: &mut Vec<u8>, words: &str, buffer: &[u8]) {
+    say(out, words);
+    say(out, " [");
+    out.extend_from_slice(buffer);
+    say(out, "]\n");
+}
+
+/// The length of a buffer at the front of a payload, and what follows it.
+fn room(payload: &[u8]) -> Option<(usize, &[u8])> {
+    let (room, rest) = payload.split_first_chunk()?;
+    let room = usize::from(u16::from_le_bytes(*room));
+    (room <= WIDEST).then_some((room, rest))
 }
 
 /// A payload that is one number, little end first.
@@ -87,7 +140,7 @@ fn read(piece: &[u8], out: &mut Vec<u8>) -> Option<()> {
         Ok(Reading::Record(record)) => {
             show_record(&record, out);
             for room in WRITTEN_BACK {
-                show_write(&record, room, out);
+                show_write(record.stored(), room, out);
             }
         }
         Err(refusal) => say(out, &format!("read {refusal}\n")),
@@ -107,25 +160,32 @@ fn show_record(record: &Record, out: &mut Vec<u8>) {
     out.push(b'\n');
 }
 
-fn show_write(record: &Record, room: usize, out: &mut Vec<u8>) {
+fn show_write(record: &[u8], room: usize, out: &mut Vec<u8>) {
     let mut buffer = [UNTOUCHED; WIDEST];
     let buffer = &mut buffer[..room];
-    match line::write(record, buffer) {
-        Ok(()) => say(out, &format!("write {room} done [")),
-        Err(refusal) => say(out, &format!("write {room} {refusal} [")),
-    }
-    out.extend_from_slice(buffer);
-    say(out, "]\n");
+    let outcome = outcome(line::write(record, buffer));
+    say_buffer(out, &format!("write {room} {outcome}"), buffer);
 }
 
 fn write(payload: &[u8], out: &mut Vec<u8>) -> Option<()> {
-    let (room, stored) = payload.split_first_chunk::<2>()?;
-    let room = usize::from(u16::from_le_bytes(*room));
-    let record = Record::load(stored.try_into().ok()?)?;
-    if room > WIDEST {
-        return None;
-    }
-    show_write(&record, room, out);
+    let (room, record) = room(payload)?;
+    show_write(record, room, out);
+    Some(())
+}
+
+/// Reads a record as bytes, and shows what kind of piece was told beside it.
+fn read_into(payload: &[u8], out: &mut Vec<u8>) -> Option<()> {
+    let (room, piece) = room(payload)?;
+    let mut buffer = [UNTOUCHED; WIDEST];
+    let buffer = &mut buffer[..room];
+    let result = line::read_into(piece, buffer);
+    let kind = match result {
+        Ok(Reading::EndOfDay) => 0,
+        Ok(Reading::Record(_)) => 1,
+        Err(_) => UNTOLD,
+    };
+    let outcome = outcome(result.map(|_| ()));
+    say_buffer(out, &format!("record {room} {outcome} kind {kind}"), buffer);
     Some(())
 }
 
@@ -153,5 +213,115 @@ fn clock_time(payload: &[u8], out: &mut Vec<u8>) -> Option<()> {
         }
         Err(refusal) => say(out, &format!("clock {refusal}\n")),
     }
+    Some(())
+}
+
+// Tables.
+
+impl Trial {
+    fn sum(&self) -> u64 {
+        sum(&self.table)
+    }
+
+    fn take(&mut self, bytes: &[u8], out: &mut Vec<u8>) -> Option<()> {
+        if bytes.len() > LONGEST_TABLE {
+            return None;
+        }
+        self.table.clear();
+        self.table.extend_from_slice(bytes);
+        say(out, &format!("table {} sum {}\n", bytes.len(), self.sum()));
+        Some(())
+    }
+
+    fn patch(&mut self, payload: &[u8], out: &mut Vec<u8>) -> Option<()> {
+        let (place, bytes) = payload.split_first_chunk()?;
+        let place = u32::from_le_bytes(*place) as usize;
+        self.table.get_mut(place..)?.get_mut(..bytes.len())?.copy_from_slice(bytes);
+        say(out, &format!("patch sum {}\n", self.sum()));
+        Some(())
+    }
+
+    fn make_empty(&mut self, payload: &[u8], out: &mut Vec<u8>) -> Option<()> {
+        nothing(payload)?;
+        let outcome = outcome(table::make_empty(&mut self.table));
+        say(out, &format!("empty {outcome} sum {}\n", self.sum()));
+        Some(())
+    }
+
+    fn damage(&self, payload: &[u8], out: &mut Vec<u8>) -> Option<()> {
+        nothing(payload)?;
+        say(out, if table::load(&self.table).is_ok() { "undamaged\n" } else { "damaged\n" });
+        Some(())
+    }
+
+    fn look_up(&self, key: &[u8], out: &mut Vec<u8>) -> Option<()> {
+        match table::look_up(&self.table, key) {
+            Ok(place) => say(out, &format!("lookup {place}\n")),
+            Err(refusal) => say(out, &format!("lookup {refusal}\n")),
+        }
+        Some(())
+    }
+
+    fn order(&self, payload: &[u8], out: &mut Vec<u8>) -> Option<()> {
+        let (place, rest) = payload.split_first_chunk()?;
+        let (room, rest) = room(rest)?;
+        nothing(rest)?;
+        let mut buffer = [UNTOUCHED; WIDEST];
+        let buffer = &mut buffer[..room];
+        let outcome = outcome(table::write_order(&self.table, u64::from_le_bytes(*place), buffer));
+        say_buffer(out, &format!("order {room} {outcome}"), buffer);
+        Some(())
+    }
+
+    fn book(&mut self, piece: &[u8], out: &mut Vec<u8>) -> Option<()> {
+        let outcome = outcome(table::book(&mut self.table, piece));
+        say(out, &format!("book {outcome} sum {}\n", self.sum()));
+        Some(())
+    }
+
+    fn sheet(&self, payload: &[u8], out: &mut Vec<u8>) -> Option<()> {
+        let room = u32::from_le_bytes(payload.try_into().ok()?) as usize;
+        if room > WIDEST_SHEET {
+            return None;
+        }
+        let mut buffer = vec![UNTOUCHED; room];
+        let result = table::write_sheet(&self.table, &mut buffer);
+        let sum = sum(&buffer);
+        let written = &buffer[..result.unwrap_or(0)];
+        let outcome = result.map_or_else(|refusal| refusal.to_string(), |length| format!("done {length}"));
+        say_buffer(out, &format!("sheet {room} {outcome} sum {sum}"), written);
+        Some(())
+    }
+}
+
+fn nothing(payload: &[u8]) -> Option<()> {
+    payload.is_empty().then_some(())
+}
+
+// Texts.
+
+fn next_piece(payload: &[u8], out: &mut Vec<u8>) -> Option<()> {
+    let (place, text) = payload.split_first_chunk()?;
+    let start = usize::try_from(u64::from_le_bytes(*place)).unwrap_or(usize::MAX).min(text.len());
+    match text[start..].split_inclusive(|byte| *byte == LF).next() {
+        Some(piece) => say(out, &format!("piece {start} {}\n", start + piece.len())),
+        None => say(out, "piece none\n"),
+    }
+    Some(())
+}
+
+/// Books the text at one go: what the steps write depends neither on the chunks nor on the room.
+fn fed(payload: &[u8], out: &mut Vec<u8>) -> Option<()> {
+    let (room, rest) = payload.split_first_chunk()?;
+    let (count, rest) = rest.split_first_chunk()?;
+    let count = usize::from(u16::from_le_bytes(*count));
+    let (sizes, text) = rest.split_at_checked(2 * count)?;
+    let none_is_0 = count > 0 && sizes.chunks_exact(2).all(|size| size != [0, 0]);
+    if !none_is_0 || !ROOMS.contains(&u32::from_le_bytes(*room)) {
+        return None;
+    }
+    say(out, "fed [");
+    sheet::run(&mut &*text, out).expect("memory takes every byte");
+    say(out, "]\n");
     Some(())
 }

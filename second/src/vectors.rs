@@ -1,32 +1,33 @@
-//! The vectors that the papers print, each with its answer written by hand.
+//! The vectors that the papers print, and a few for records as bytes, tables and texts, each with its
+//! answer written by hand.
 
 use std::io::{self, Write};
 
-use crate::cases::{self, put};
-use crate::line::FIELDS;
-use crate::record::Record;
-use crate::trial;
+use crate::cases::{self, put, room_payload};
+use crate::hand::{order_payload, patch_payload};
+use crate::shorthand::{capture, executed, key, piece, untraded, EXECUTED, WHOLE_CASE};
+use crate::table::{slot, BROKEN, ELDER, SIZE, TABLE};
+use crate::text_cases::{capture_payload, piece_payload};
+use crate::trial::Trial;
 
-/// A line of 001's own samples where they fit their fields, and of 01's vectors elsewhere.
-#[rustfmt::skip]
-pub const EXECUTED: &str = concat!(
-    "34293104", "E", "175C", "F", "O", "A", "BSI ", "00009", "00003", "ABCD01",
-    "T1                  ", "                    ", "000836AFF", "B", "    30",
-    "MSFT  ", "G", "27", "09", "C", "205750", "  12875000", "   122853", "   122001", "\r\n"
-);
 /// All that the trial shows of it.
 const EXECUTED_SHOWN: &str = "read record 1[34293104] 2[E] 3[175C] 4[F] 5[O] 6[A] 7[BSI ] 8[00009] 9[00003] \
     10[ABCD01] 11[T1                  ] 12[                    ] 13[000836AFF] 14[B] 15[    30] 16[MSFT  ] 17[G] \
     18[27] 19[09] 20[C] 21[205750] 22[  12875000] 23[   122853] 24[   122001]\n";
 
-const NO_ID: &str = "         ";
-pub const NO_TOKEN: &str = "                    ";
+/// The same as a record's bytes.
+const EXECUTED_STORED: &[u8; 138] = b"\x70\x45\x0B\x02\0\0\0\0E175CFOABSI 0000900003ABCD01\
+    T1                                      000836AFFB\x1E\0\0\0\0\0MSFT  G\x1B\0\x09\0C\xB6\x23\x03\0\0\0\
+    \xF8\x74\xC4\0\0\0\0\0\0\0\xE5\xDF\x01\0\0\0\0\0\0\x91\xDC\x01\0\0\0\0\0\0";
+
 const T1: &str = "T1                  ";
 const T2: &str = "T2                  ";
 
 /// What the trial must say to a case.
 pub enum Says {
-    Words(String),
+    Words(Vec<u8>),
+    /// A sum between these words.
+    Sum(&'static str, String),
     /// A record that shows these parts, and whose line is the piece itself.
     Record(&'static [&'static str]),
 }
@@ -39,15 +40,21 @@ pub struct Vector {
 }
 
 impl Vector {
-    pub fn holds(&self) -> bool {
+    /// Whether the trial says so. It keeps the table in hand for the next vector.
+    pub fn holds(&self, trial: &mut Trial) -> bool {
         let mut said = Vec::new();
-        trial::answer(self.kind, &self.payload, &mut said);
-        let said = String::from_utf8_lossy(&said);
+        trial.answer(self.kind, &self.payload, &mut said);
+        let shown = String::from_utf8_lossy(&said);
         match &self.says {
-            Says::Words(words) => said == format!("{words}\n"),
+            Says::Words(words) => said.strip_suffix(b"\n") == Some(words),
+            Says::Sum(before, after) => {
+                let sum =
+                    shown.strip_prefix(before).and_then(|rest| rest.strip_suffix("\n")?.strip_suffix(after.as_str()));
+                sum.is_some_and(|sum| sum.strip_prefix(" sum ").is_some_and(|digits| digits.parse::<u32>().is_ok()))
+            }
             Says::Record(parts) => {
                 let written = written_back(&String::from_utf8_lossy(&self.payload));
-                said.strip_suffix(&written).is_some_and(|shown| {
+                shown.strip_suffix(&written).is_some_and(|shown| {
                     shown.starts_with("read record ") && parts.iter().all(|part| shown.contains(part))
                 })
             }
@@ -64,33 +71,30 @@ fn written_back(line: &str) -> String {
     )
 }
 
-/// A line with other contents in some of its fields, by number.
-pub fn with(line: &[u8], changes: &[(usize, &str)]) -> Vec<u8> {
-    changes.iter().fold(line.to_vec(), |line, (number, content)| {
-        cases::with(&line, FIELDS[number - 1].places(), content.as_bytes())
-    })
-}
-
-pub fn executed(changes: &[(usize, &str)]) -> Vec<u8> {
-    with(EXECUTED.as_bytes(), changes)
-}
-
-/// A line of a type that carries no liquidity and no ids.
-pub fn untraded(letter: &str, changes: &[(usize, &str)]) -> Vec<u8> {
-    let line = executed(&[(2, letter), (6, " "), (23, NO_ID), (24, NO_ID)]);
-    with(&line, changes)
-}
-
 pub fn reads(name: &'static str, piece: Vec<u8>, parts: &'static [&'static str]) -> Vector {
     Vector { name, kind: b'r', payload: piece, says: Says::Record(parts) }
 }
 
-pub fn says(name: &'static str, kind: u8, payload: Vec<u8>, words: &str) -> Vector {
-    Vector { name, kind, payload, says: Says::Words(words.to_string()) }
+pub fn says(name: &'static str, kind: u8, payload: Vec<u8>, words: impl AsRef<[u8]>) -> Vector {
+    Vector { name, kind, payload, says: Says::Words(words.as_ref().to_vec()) }
+}
+
+fn sums(name: &'static str, kind: u8, payload: Vec<u8>, before: &'static str, after: &str) -> Vector {
+    Vector { name, kind, payload, says: Says::Sum(before, after.to_string()) }
+}
+
+fn books(words: &'static str, before: &'static str) -> Vector {
+    sums(words, b'b', piece(words), before, "")
+}
+
+/// Bytes put into the table, what the damage check says then, and the bytes that stood there again.
+fn patched(name: &'static str, at: usize, [bytes, before]: [Vec<u8>; 2], words: &str) -> [Vector; 3] {
+    let patch = |name, bytes: &[u8]| sums(name, b'p', patch_payload(at as u32, bytes), "patch", "");
+    [patch(name, &bytes), says(name, b'd', vec![], words), patch("As it was", &before)]
 }
 
 pub fn refused_field(name: &'static str, piece: Vec<u8>, field: usize) -> Vector {
-    says(name, b'r', piece, &format!("read refused 3 field {field}"))
+    says(name, b'r', piece, format!("read refused 3 field {field}"))
 }
 
 fn of_number(name: &'static str, kind: u8, number: u64, words: &str) -> Vector {
@@ -106,8 +110,6 @@ fn of_strike(name: &'static str, code: u8, digits: u64, words: &str) -> Vector {
 pub fn papers() -> Vec<Vector> {
     let too_long = [&EXECUTED.as_bytes()[..138], b" \r\n"].concat();
     let foreign_byte = executed(&[(11, "T1\t                 ")]);
-    let no_contracts = Record::of_line(&executed(&[(15, "     0")]));
-    let untouched = format!("write 139 refused 4 [{}]", ".".repeat(139));
     vec![
         of_number("Timestamp 34293104 is 09:31:33.104", b'k', 34_293_104, "clock 09:31:33.104"),
         of_number("Timestamp 86399999 is 23:59:59.999", b'k', 86_399_999, "clock 23:59:59.999"),
@@ -145,12 +147,207 @@ pub fn papers() -> Vec<Vector> {
         reads("U: T2 for T1 reads", untraded("U", &[(11, T2), (12, T1)]),
             &[" 2[U] ", " 11[T2                  ] 12[T1                  ] "]),
         reads("R: a new price reads", untraded("R", &[(22, "     00001")]), &[" 2[R] ", " 22[         1] "]),
-        says("Writing refuses 4 before 3", b'w', cases::write_payload(139, no_contracts.stored()), &untouched),
     ]
 }
 
+/// The bytes of the record with others in some places.
+fn stored(changes: &[(usize, &[u8])]) -> Vec<u8> {
+    let mut stored = EXECUTED_STORED.to_vec();
+    for (at, bytes) in changes {
+        stored[*at..at + bytes.len()].copy_from_slice(bytes);
+    }
+    stored
+}
+
+/// The record as that of an A, without liquidity and ids, and with other bytes in some places.
+fn accepted(changes: &[(usize, &[u8])]) -> Vec<u8> {
+    stored(&[&[(8, b"A".as_slice()), (15, b" "), (120, &[0; 18])], changes].concat())
+}
+
+/// A record, given as bytes, that is not written, its field being named.
+pub fn unwritten(name: &'static str, stored: Vec<u8>, field: usize) -> Vector {
+    let words = format!("write 140 refused 3 field {field} [{}]", ".".repeat(140));
+    says(name, b'w', room_payload(140, &stored), words)
+}
+
+/// A piece read as a record into so many bytes, of which none is written.
+fn unread(name: &'static str, room: usize, piece: &[u8], outcome: &str) -> Vector {
+    let words = format!("record {room} {outcome} [{}]", ".".repeat(room));
+    says(name, b'i', room_payload(room as u16, piece), words)
+}
+
+/// Records as bytes (TRIAL, A record as bytes, and LAYOUT, A record).
+#[rustfmt::skip]
+pub fn records() -> Vec<Vector> {
+    let line = executed(&[]);
+    let read = |room: u16, rest: &[u8]| {
+        [format!("record {room} done kind 1 [").as_bytes(), EXECUTED_STORED, rest, b"]"].concat()
+    };
+    let written = |line: &str| format!("write 140 done [{line}]");
+    let accepted_line = String::from_utf8(untraded("A", &[])).expect("a line is printable");
+    let untouched = format!("write 139 refused 4 [{}]", ".".repeat(139));
+    let longer = [EXECUTED_STORED.as_slice(), b"\0"].concat();
+    let bad_timestamp: (usize, &[u8]) = (0, &[0xFF; 8]);
+    vec![
+        says("A record of 138 bytes", b'i', room_payload(138, &line), read(138, b"")),
+        says("Only its bytes change", b'i', room_payload(140, &line), read(140, b"..")),
+        unread("A record needs 138 bytes", 137, &line, "refused 4 kind 7"),
+        unread("An end of day is no record", 138, b"\r\n", "done kind 0"),
+        unread("but needs its room", 137, b"\r\n", "refused 4 kind 7"),
+        unread("Reading refuses 4 before 1", 0, b"", "refused 4 kind 7"),
+        unread("An empty piece is 1", 138, b"", "refused 1 kind 7"),
+        unread("A byte outside 20 to 7E is 2, also as a record", 139, &executed(&[(3, "17\tC")]), "refused 2 kind 7"),
+        unread("A broken field is 3, also as a record", 138, &executed(&[(15, "     0")]), "refused 3 field 15 kind 7"),
+        says("The record of an E is written", b'w', room_payload(140, EXECUTED_STORED), written(EXECUTED)),
+        says("The record of an A is written", b'w', room_payload(140, &accepted(&[])), written(&accepted_line)),
+        says("Writing refuses 4 before 3", b'w', room_payload(139, &stored(&[(86, &[0])])), &untouched),
+        says("and before another length", b'w', room_payload(139, b""), &untouched),
+        unwritten("A record of no bytes is 3, field 24", vec![], 24),
+        unwritten("A record of 137 bytes is 3, field 24", EXECUTED_STORED[..137].to_vec(), 24),
+        unwritten("A record of 139 bytes is 3, field 24", longer, 24),
+        unwritten("A length comes before a type", stored(&[(8, b"B")])[..137].to_vec(), 24),
+        unwritten("A type B is 3, field 2", stored(&[(8, b"B")]), 2),
+        unwritten("Liquidity in the record of an A is 3, field 6", accepted(&[(15, b"A")]), 6),
+        unwritten("A last byte but one of the price", stored(&[(118, &[1])]), 22),
+        unwritten("A last byte of the price", stored(&[(119, &[1])]), 22),
+        unwritten("A last byte of the Match Id", stored(&[(128, &[1])]), 23),
+        unwritten("A Match Id in the record of an A is 3, field 23", accepted(&[(120, &[1])]), 23),
+        unwritten("A last byte of the Cross Id", stored(&[(137, &[1])]), 24),
+        unwritten("A Cross Id in the record of an A is 3, field 24", accepted(&[(136, &[1])]), 24),
+        unwritten("A type comes before liquidity", accepted(&[(8, b"a"), (15, b"A"), (119, &[1])]), 2),
+        unwritten("Liquidity comes before a price", accepted(&[(15, b"A"), (119, &[1])]), 6),
+        unwritten("A byte without meaning comes before a rule", stored(&[bad_timestamp, (137, &[1])]), 24),
+        unwritten("The first broken rule is named", stored(&[bad_timestamp, (15, b" "), (99, &[0])]), 1),
+        unwritten("Liquidity on an E has a meaning and breaks its rule", stored(&[(15, b" "), (99, &[0])]), 6),
+        unwritten("Contracts of 2 to the 48 less 1", stored(&[(86, &[0xFF; 6])]), 15),
+        unwritten("A Date of 65,535", stored(&[(99, &[0xFF; 2])]), 18),
+        unwritten("A Date of 256 + 27", stored(&[(100, &[1])]), 18),
+        unwritten("A price of 2 to the 64 less 1", stored(&[(110, &[0xFF; 8])]), 22),
+        unwritten("A Match Id of 2 to the 64 less 1", stored(&[(120, &[0xFF; 8])]), 23),
+        says("A buffer of 301 for a line is a bad case", b'w', room_payload(301, EXECUTED_STORED), "bad case"),
+        says("A buffer of 301 for a record is a bad case", b'i', room_payload(301, &line), "bad case"),
+        says("A write without the whole of N is a bad case", b'w', vec![140], "bad case"),
+        says("A read without the whole of N is a bad case", b'i', vec![138], "bad case"),
+    ]
+}
+
+/// The sheet of the whole case.
+const WHOLE_SHEET: &str = "orders 3 families 2\n1.1 100 30 30 0 70 0 ABCD01 T1\n1.2 60 0 0 10 0 50 ABCD01 T2\n\
+    2.1 5 0 0 0 0 5 ABCD01 T9\n";
+/// T2 at the end of the whole case, as it stands in its slot: 60 contracts, of which 10 are cancelled
+/// and 50 open, in the place of the first order.
+const T2_STORED: &[u8; 80] = b"ABCD01T2                  BMSFT  G\x1B\x09C\xB6\x23\x03\0\xF8\x74\xC4\0\0\0\0\0\
+    \x01\0\x3C\0\0\0\0\0\0\0\0\0\0\0\x0A\0\0\0\0\0\0\0\x32\0\0\0\0\0\0\0\0";
+/// The sum of as many bytes of 0 as a table has.
+const EMPTY_SUM: u64 = 40_968 * 65_536 + 1;
+
+/// The whole case booked into a table from the empty one on, and what the table then answers.
+#[rustfmt::skip]
+pub fn tables() -> Vec<Vector> {
+    let sheet = |room: u32| room.to_le_bytes().to_vec();
+    let whole_sheet = format!(" [{WHOLE_SHEET}]");
+    let t2 = key("T2");
+    let stored = [b"order 82 done [".as_slice(), T2_STORED, b"..]"].concat();
+    let in_slot = |place, part| slot(place).start + part;
+    let number = |number: u32| number.to_le_bytes().to_vec();
+    let elder = |stored: u16| stored.to_le_bytes().to_vec();
+    let bytes = |bytes: &[u8]| bytes.to_vec();
+    let undamaged = "undamaged";
+    let damaged = "damaged";
+    let mut all = vec![
+        says("No table is in hand at the start", b'd', vec![], damaged),
+        says("A table of 40,968 bytes", b't', vec![0; TABLE], format!("table 40968 sum {EMPTY_SUM}")),
+        sums("A header without meaning", b'p', patch_payload(0, &[0xFF; 8]), "patch", ""),
+        says("It is damaged", b'd', vec![], damaged),
+        says("Making the empty table writes the header", b'e', vec![], format!("empty done sum {EMPTY_SUM}")),
+        says("The empty table is undamaged", b'd', vec![], undamaged),
+        sums("The empty sheet", b'h', sheet(20), "sheet 20 done 20", " [orders 0 families 0\n]"),
+        books("A T1 100", "book done"),
+        books("E T1 30", "book done"),
+        books("U T2 for T1, 60", "book done"),
+        books("A T9 5", "book done"),
+        books("X T2 10", "book done"),
+        books("C T1 30", "book done"),
+        books("U T1 for T2, 50", "book refused 7"),
+        books("A T3 0", "book refused 3 field 15"),
+        books("end of day", "book done"),
+        books("end of day", "book refused 6"),
+        says("Every table reached from empty is undamaged", b'd', vec![], undamaged),
+        sums("The whole case's sheet", b'h', sheet(106), "sheet 106 done 106", &whole_sheet),
+        sums("Only the bytes it needs change", b'h', sheet(300), "sheet 300 done 106", &whole_sheet),
+        sums("A buffer one byte too short", b'h', sheet(105), "sheet 105 refused 4", " []"),
+        says("A lookup finds T2", b'l', t2.to_vec(), "lookup 1"),
+        says("A key of 25 bytes is one that no order has", b'l', t2[..25].to_vec(), "lookup refused 8"),
+        says("T3 isn't in the table", b'l', key("T3").to_vec(), "lookup refused 8"),
+        says("T2 in its slot", b'o', order_payload(1, 82), stored),
+        says("There is no fourth order", b'o', order_payload(3, 80), format!("order 80 refused 8 [{}]", ".".repeat(80))),
+        says("79 bytes are too few", b'o', order_payload(3, 79), format!("order 79 refused 4 [{}]", ".".repeat(79))),
+    ];
+    for (name, at, [other, before], words) in [
+        ("512 orders, of which most are none", 0, [number(512), number(3)], damaged),
+        ("513 orders", 0, [number(513), number(3)], damaged),
+        ("Two orders", 0, [number(2), number(3)], undamaged),
+        ("A mark of 2", 4, [bytes(&[2]), bytes(&[1])], damaged),
+        ("A byte of the header that must be 0", 7, [bytes(&[1]), bytes(&[0])], damaged),
+        ("An order that is its own elder", in_slot(1, ELDER), [elder(2), elder(1)], damaged),
+        ("An elder that is later", in_slot(1, ELDER), [elder(3), elder(1)], damaged),
+        ("Two orders with one elder", in_slot(2, ELDER), [elder(1), elder(0)], damaged),
+        ("An elder with something open", in_slot(2, ELDER), [elder(2), elder(0)], damaged),
+        ("Broken above executed", in_slot(0, BROKEN), [number(31), number(30)], damaged),
+        ("Broken below executed", in_slot(0, BROKEN), [number(29), number(30)], undamaged),
+        ("A size that isn't the sum", in_slot(0, SIZE), [number(101), number(100)], damaged),
+        ("A size of 0", in_slot(2, SIZE), [number(0), number(5)], damaged),
+        ("A repeated key", in_slot(2, 6), [bytes(b"T1"), bytes(b"T9")], undamaged),
+        ("A token with a byte outside 20 to 7E", in_slot(2, 6), [bytes(b"T\x7F"), bytes(b"T9")], damaged),
+        ("A source that begins with a space", in_slot(2, 0), [bytes(b" "), bytes(b"A")], damaged),
+        ("A byte of a slot that must be 0", in_slot(2, 79), [bytes(&[1]), bytes(&[0])], damaged),
+        ("Anything in a free slot", in_slot(3, 0), [number(u32::MAX), number(0)], undamaged),
+    ] {
+        all.extend(patched(name, at, [other, before], words));
+    }
+    all.extend([
+        sums("A damaged table", b'p', patch_payload(4, &[2]), "patch", ""),
+        says("refuses a lookup", b'l', t2.to_vec(), "lookup refused 5"),
+        says("and an order", b'o', order_payload(1, 4), "order 4 refused 5 [....]"),
+        sums("and a sheet", b'h', sheet(0), "sheet 0 refused 5", " []"),
+        sums("and any piece", b'b', vec![], "book refused 5", ""),
+        says("A table of 8 bytes", b't', vec![0; 8], "table 8 sum 524289"),
+        says("is too short to be made empty", b'e', vec![], "empty refused 4 sum 524289"),
+        says("and damaged", b'd', vec![], damaged),
+        says("A patch past the end is a bad case", b'p', patch_payload(5, &[0; 4]), "bad case"),
+    ]);
+    all
+}
+
+/// Pieces of texts, and the sheet program's steps.
+#[rustfmt::skip]
+pub fn texts() -> Vec<Vector> {
+    let whole = capture(WHOLE_CASE);
+    let printed = format!("fed [line 7 refused 7\n{WHOLE_SHEET}]");
+    vec![
+        says("A piece runs up to and including the next LF", b'x', piece_payload(0, b"A\nB"), "piece 0 2"),
+        says("or to the end of the text", b'x', piece_payload(2, b"A\nB"), "piece 2 3"),
+        says("from any place", b'x', piece_payload(1, b"A\nB"), "piece 1 2"),
+        says("At the end nothing is left", b'x', piece_payload(3, b"A\nB"), "piece none"),
+        says("nor past it", b'x', piece_payload(u64::MAX, b"A\nB"), "piece none"),
+        says("An empty text has no piece", b'x', piece_payload(0, b""), "piece none"),
+        says("The whole case in chunks of 1", b'c', capture_payload(64, &[1], &whole), &printed),
+        says("The whole case in chunks of 139 and 2", b'c', capture_payload(65, &[139, 2], &whole), &printed),
+        says("The whole case in one chunk", b'c', capture_payload(60_000, &[2_000], &whole), &printed),
+        says("Empty input", b'c', capture_payload(64, &[1], b""), "fed [orders 0 families 0\n]"),
+        says("A last piece without LF", b'c', capture_payload(64, &[1], &whole[..139]),
+            "fed [line 1 refused 1\norders 0 families 0\n]"),
+        says("A piece above 140 bytes", b'c', capture_payload(64, &[140], &[b'x'; 1_000]),
+            "fed [line 1 refused 1\norders 0 families 0\n]"),
+        says("No size is a bad case", b'c', capture_payload(64, &[], &whole), "bad case"),
+        says("A size of 0 is a bad case", b'c', capture_payload(64, &[1, 0], &whole), "bad case"),
+        says("A room of 63 is a bad case", b'c', capture_payload(63, &[1], &whole), "bad case"),
+    ]
+}
+
+/// Writes their cases.
 pub fn write(out: &mut impl Write) -> io::Result<()> {
-    for vector in papers() {
+    for vector in papers().into_iter().chain(records()).chain(tables()).chain(texts()) {
         put(out, b'n', vector.name.as_bytes())?;
         put(out, vector.kind, &vector.payload)?;
     }

@@ -1,11 +1,7 @@
-// A record as one line of text: every field in brackets, at its full width.
+// Values as text of fixed widths: a record's fields, a strike, a time.
+ghost use Prim.Native.Nat.{_≤_};
 use crate::say;
 use field::put;
-use layout::Clock;
-use layout::Event;
-use layout::Record;
-use layout::Strike;
-use layout::Trade;
 
 // Each of these writes where there is room, so that nothing has to be shown of a text's length.
 fn put_run(text: &mut [u8], at: usize, s: &[u8]) {
@@ -24,124 +20,119 @@ fn put_number(text: &mut [u8], at: usize, width: usize, v: u64, fill: u8) {
     }
 }
 
-fn put_byte(text: &mut [u8], at: usize, b: u8) {
-    if at < text.len() {
-        text[at] = b;
+// The bytes of a record's field, as they stand.
+fn put_bytes(text: &mut [u8], at: usize, b: &[u8], from: usize, width: usize) {
+    if from <= b.len() {
+        if width <= b.len() - from {
+            put_run(text, at, &b[from..from + width]);
+        }
     }
 }
 
-pub fn record(r: Record) {
+// The number of a record's field, as wide as the field.
+fn put_field(text: &mut [u8], at: usize, b: &[u8], from: usize, width: usize, fill: u8) {
+    let w = counted(width);
+    if from <= b.len() {
+        if w <= b.len() - from {
+            put_number(text, at, width, cell::get(b, from, w), fill);
+        }
+    }
+}
+
+// How many bytes of a number can be other than 0.
+fn counted(width: usize) -> usize
+    ensures { λ r. ⌜ r ≤ 8 ⌝ }
+{
+    if width < 8 {
+        return width;
+    }
+    8
+}
+
+// A record from its 138 bytes: every field in brackets, at its full width.
+pub fn record(b: &[u8]) {
     let mut text = [0u8; 261];
     put::copy(
         &mut text,
         b"read record 1[        ] 2[ ] 3[    ] 4[ ] 5[ ] 6[ ] 7[    ] 8[     ] 9[     ] 10[      ] 11[                    ] 12[                    ] 13[         ] 14[ ] 15[      ] 16[      ] 17[ ] 18[  ] 19[  ] 20[ ] 21[      ] 22[          ] 23[         ] 24[         ]\n",
     );
-    let event = r.event;
-    event_fields(&mut text, event);
-    party_fields(&mut text, r);
-    name_fields(&mut text, r);
-    reference_fields(&mut text, r);
-    code_fields(&mut text, r);
-    number_fields(&mut text, r);
+    code_fields(&mut text, b);
+    party_fields(&mut text, b);
+    name_fields(&mut text, b);
+    option_fields(&mut text, b);
+    number_fields(&mut text, b);
+    id_fields(&mut text, b);
     say::text(&text);
 }
 
-// Fields 2, 6, 23 and 24.
-fn event_fields(text: &mut [u8], e: Event) {
-    match e {
-        Event::Accepted => {
-            put_byte(text, 26, b'A');
-        }
-        Event::Executed(t) => {
-            put_byte(text, 26, b'E');
-            trade_fields(text, t);
-        }
-        Event::Cancelled => {
-            put_byte(text, 26, b'X');
-        }
-        Event::Broken(t) => {
-            put_byte(text, 26, b'C');
-            trade_fields(text, t);
-        }
-        Event::Replaced => {
-            put_byte(text, 26, b'U');
-        }
-        Event::Repriced => {
-            put_byte(text, 26, b'R');
-        }
-    }
-}
-
-fn trade_fields(text: &mut [u8], t: Trade) {
-    put_byte(text, 49, t.liquidity);
-    put_number(text, 236, 9, t.match_id, b' ');
-    put_number(text, 250, 9, t.cross_id, b' ');
+// Fields 2, 4, 5 and 6.
+fn code_fields(text: &mut [u8], b: &[u8]) {
+    put_bytes(text, 26, b, 8, 1);
+    put_bytes(text, 39, b, 13, 1);
+    put_bytes(text, 44, b, 14, 1);
+    put_bytes(text, 49, b, 15, 1);
 }
 
 // Fields 3, 7, 8 and 9.
-fn party_fields(text: &mut [u8], r: Record) {
-    let firm = r.firm;
-    put_run(text, 31, &firm);
-    let account = r.account;
-    put_run(text, 54, &account);
-    let member = r.member;
-    put_run(text, 62, &member);
-    let clearing = r.clearing;
-    put_run(text, 71, &clearing);
+fn party_fields(text: &mut [u8], b: &[u8]) {
+    put_bytes(text, 31, b, 9, 4);
+    put_bytes(text, 54, b, 16, 4);
+    put_bytes(text, 62, b, 20, 5);
+    put_bytes(text, 71, b, 25, 5);
 }
 
-// Fields 10 to 12.
-fn name_fields(text: &mut [u8], r: Record) {
-    let source = r.source;
-    put_run(text, 81, &source);
-    let token = r.token;
-    put_run(text, 92, &token);
-    let replaced = r.replaced;
-    put_run(text, 117, &replaced);
+// Fields 10 to 13.
+fn name_fields(text: &mut [u8], b: &[u8]) {
+    put_bytes(text, 81, b, 30, 6);
+    put_bytes(text, 92, b, 36, 20);
+    put_bytes(text, 117, b, 56, 20);
+    put_bytes(text, 142, b, 76, 9);
 }
 
-// Fields 13 and 16.
-fn reference_fields(text: &mut [u8], r: Record) {
-    let reference = r.reference;
-    put_run(text, 142, &reference);
-    let root = r.root;
-    put_run(text, 173, &root);
-}
-
-// Fields 4, 5, 14, 17 and 20.
-fn code_fields(text: &mut [u8], r: Record) {
-    put_byte(text, 39, r.capacity);
-    put_byte(text, 44, r.position);
-    put_byte(text, 156, r.side);
-    put_byte(text, 184, r.month);
-    put_byte(text, 204, r.denominator);
+// Fields 14, 16, 17 and 20.
+fn option_fields(text: &mut [u8], b: &[u8]) {
+    put_bytes(text, 156, b, 85, 1);
+    put_bytes(text, 173, b, 92, 6);
+    put_bytes(text, 184, b, 98, 1);
+    put_bytes(text, 204, b, 103, 1);
 }
 
 // Fields 1, 15, 18, 19, 21 and 22.
-fn number_fields(text: &mut [u8], r: Record) {
-    put_number(text, 14, 8, r.timestamp, b' ');
-    put_number(text, 162, 6, r.contracts, b' ');
-    put_number(text, 190, 2, r.date, b'0');
-    put_number(text, 197, 2, r.year, b'0');
-    put_number(text, 210, 6, r.strike, b'0');
-    put_number(text, 221, 10, r.price, b' ');
+fn number_fields(text: &mut [u8], b: &[u8]) {
+    put_field(text, 14, b, 0, 8, b' ');
+    put_field(text, 162, b, 86, 6, b' ');
+    put_field(text, 190, b, 99, 2, b'0');
+    put_field(text, 197, b, 101, 2, b'0');
+    put_field(text, 210, b, 104, 6, b'0');
+    put_field(text, 221, b, 110, 10, b' ');
+}
+
+// Fields 23 and 24, missing where the type has none.
+fn id_fields(text: &mut [u8], b: &[u8]) {
+    if b.len() != 138 {
+        return;
+    }
+    if (b[8] == b'E') | (b[8] == b'C') {
+        put_field(text, 236, b, 120, 9, b' ');
+        put_field(text, 250, b, 129, 9, b' ');
+    }
 }
 
 // A strike's letter and its six digits.
-pub fn strike(f: Strike) {
+pub fn strike(denominator: u64, strike: u64) {
     let mut text = [0u8; 20];
     put_run(&mut text, 0, b"strike form C DDDDDD");
-    put_number(&mut text, 14, 6, f.digits, b'0');
-    put_byte(&mut text, 12, f.denominator);
+    text[12] = (denominator % 256) as u8;
+    put_number(&mut text, 14, 6, strike, b'0');
     say::text(&text);
 }
 
-pub fn time(t: Clock) {
+pub fn time(hours: u64, minutes: u64, seconds: u64, milliseconds: u64) {
     let mut text = [0u8; 13];
     put_run(&mut text, 0, b" HH:MM:SS.mmm");
-    put_number(&mut text, 1, 2, t.hours, b'0');
-    put_number(&mut text, 4, 2, t.minutes, b'0');
-    put_number(&mut text, 7, 2, t.seconds, b'0');
-    put_number(&mut text, 10, 3, t.milliseconds, b'0');
+    put_number(&mut text, 1, 2, hours, b'0');
+    put_number(&mut text, 4, 2, minutes, b'0');
+    put_number(&mut text, 7, 2, seconds, b'0');
+    put_number(&mut text, 10, 3, milliseconds, b'0');
     say::text(&text);
 }

@@ -1,25 +1,20 @@
 -- `drop_sheet::run` meets its contract: the empty table is sound, the steps keep it so, and the end of the text has room.
 use Prim.Native.Nat.{ℕ, _≤_}
 use native.Mathlib.Omega.{arith}
-use mathlib.Core.Path.{_≡_, ap, _∙_}
+use mathlib.Core.Path.{_≡_, ap}
 use mathlib.Core.Bool.{true}
 use mathlib.Core.List.{List}
 use borrow.Author.Needs.{needs}
 use denote.Ref.{now}
 use lib.ListN.{length}
 use lib.Seq.{length-sets}
-use Rattle.table.specs.Promises.{Makes}
 use Rattle.table.specs.Tables.{sound}
-use Rattle.table.specs.declared.Made.{Made}
-use Rattle.table.proofs.Making.{empty-sound}
 use Rattle.row.specs.Writes.{Wrote}
 use Rattle.feed.specs.Steps.{between, finished, heldIn}
 use Rattle.feed.proofs.Finishing.{finished-most}
+use Rattle.feed.proofs.Starting.{made-sound}
 use Rattle.drop_sheet.proofs.run.Statement.{statement}
 use Rattle.drop_sheet.proofs.run.Tie as tie
-
-made-sound : (before : List ℕ) {x : Made} {after : List ℕ} → length before ≡ 40968 → Makes before x after → sound after ≡ true
-made-sound before e m = ap sound (m .out ∙ rw e) ∙ empty-sound before e .0
 
 written-inside : (held : List ℕ) (l : ℕ) (t before : List ℕ) {out : List ℕ} {n : ℕ} → sound t ≡ true → 40006 ≤ length before
     → Wrote (finished (between held l t)) before out n → n ≤ length out

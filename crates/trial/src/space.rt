@@ -1,0 +1,17 @@
+// The large buffers. Each `ensures` is what lending the array needs.
+ghost use mathlib.Core.Path.{_≡_};
+ghost use lib.ListN.{length};
+
+// Room for the longest table in hand.
+pub fn table() -> [u8; 41_100]
+    ensures { λ r. ⌜ 41100 ≡ length r ⌝ }
+{
+    [0; 41_100]
+}
+
+// Room for the longest output, all of it dots, so that it shows which bytes were written.
+pub fn output() -> [u8; 60_000]
+    ensures { λ r. ⌜ 60000 ≡ length r ⌝ }
+{
+    [b'.'; 60_000]
+}

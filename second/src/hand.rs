@@ -1,0 +1,108 @@
+//! Writes cases about one table, and keeps it as the trial will hold it.
+
+use std::io::{self, Write};
+
+use crate::cases::put;
+use crate::shorthand::{key, piece};
+use crate::table::{self, SLOT};
+
+/// A sheet's buffer with room for a few orders.
+const ROOM: u32 = 2_000;
+
+type Written = io::Result<()>;
+
+pub struct Hand<'a> {
+    table: Vec<u8>,
+    out: &'a mut dyn Write,
+}
+
+impl Hand<'_> {
+    pub fn new(out: &mut dyn Write) -> Hand<'_> {
+        Hand { table: vec![], out }
+    }
+
+    pub fn table(&self) -> &[u8] {
+        &self.table
+    }
+
+    pub fn put(&mut self, kind: u8, payload: &[u8]) -> Written {
+        put(&mut self.out, kind, payload)
+    }
+
+    pub fn name(&mut self, words: &str) -> Written {
+        self.put(b'n', words.as_bytes())
+    }
+
+    pub fn take(&mut self, table: Vec<u8>) -> Written {
+        self.table = table;
+        put(&mut self.out, b't', &self.table)
+    }
+
+    /// Puts bytes into the table, all inside it.
+    pub fn patch(&mut self, at: usize, bytes: &[u8]) -> Written {
+        self.table[at..at + bytes.len()].copy_from_slice(bytes);
+        self.put(b'p', &patch_payload(at as u32, bytes))
+    }
+
+    /// Makes the table what it was, by patches about as long as a slot.
+    pub fn restore(&mut self, before: &[u8]) -> Written {
+        for (at, run) in (0..).step_by(SLOT).zip(before.chunks(SLOT)) {
+            if self.table[at..at + run.len()] != *run {
+                self.patch(at, run)?;
+            }
+        }
+        Ok(())
+    }
+
+    pub fn make_empty(&mut self) -> Written {
+        // Refused or not, the answer is the trial's to give.
+        let _ = table::make_empty(&mut self.table);
+        self.put(b'e', b"")
+    }
+
+    pub fn check(&mut self) -> Written {
+        self.put(b'd', b"")
+    }
+
+    pub fn look_up(&mut self, key: &[u8]) -> Written {
+        self.put(b'l', key)
+    }
+
+    pub fn show(&mut self, place: u64, room: u16) -> Written {
+        self.put(b'o', &order_payload(place, room))
+    }
+
+    pub fn book(&mut self, piece: &[u8]) -> Written {
+        let _ = table::book(&mut self.table, piece);
+        self.put(b'b', piece)
+    }
+
+    pub fn sheet(&mut self, room: u32) -> Written {
+        self.put(b'h', &room.to_le_bytes())
+    }
+
+    /// One of the entries that refuse a damaged table, by a number that may be any.
+    pub fn ask(&mut self, entry: usize) -> Written {
+        match entry % 6 {
+            0 => self.look_up(&key("T9")),
+            1 => self.show(0, 80),
+            2 => self.book(&piece("E T4 1")),
+            3 => self.sheet(ROOM),
+            4 => self.book(&piece("A T10 5")),
+            // Even what is no piece is refused by its table first.
+            _ => self.book(b"A"),
+        }
+    }
+
+    pub fn ask_all(&mut self) -> Written {
+        (0..6).try_for_each(|entry| self.ask(entry))
+    }
+}
+
+pub fn patch_payload(at: u32, bytes: &[u8]) -> Vec<u8> {
+    [&at.to_le_bytes(), bytes].concat()
+}
+
+pub fn order_payload(place: u64, room: u16) -> Vec<u8> {
+    [&place.to_le_bytes()[..], &room.to_le_bytes()].concat()
+}

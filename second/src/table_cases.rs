@@ -1,0 +1,414 @@
+//! Cases about lent tables: lengths, every refusal of booking, sheets, and random traffic.
+
+use std::io;
+
+use crate::cases::{self, broken, lawful_line};
+use crate::damages;
+use crate::day::{Day, Figures, Order, MOST};
+use crate::hand::{order_payload, patch_payload, Hand};
+use crate::line::{CR_LF, FIELDS, LF, LINE};
+use crate::random::Random;
+use crate::sheet;
+use crate::shorthand::{capture, key, other, piece, OTHERS};
+use crate::stream::Stream;
+use crate::table::{self, slot, HEADER, SLOT, TABLE};
+use crate::trial::{LONGEST, LONGEST_TABLE, WIDEST_SHEET};
+
+/// A family of three (T1, T3, T4), one of two (T5, T6), and single orders with all executed (T7), all
+/// cancelled (T8) and all open (T9). The second order, T2 of another Source, comes before T3.
+const RICH: [&str; 2] = [
+    "A T1 100; E T1 30; C T1 10; X T1 5",
+    "U T3 for T1, 60; E T3 20; C T3 20; X T3 1; U T4 for T3, 40; E T4 5; X T4 15; A T5 999999; \
+     U T6 for T5, 999999; A T7 1; E T7 1; A T8 12; X T8 12; A T9 50",
+];
+pub const RICH_ORDERS: usize = 9;
+/// How many tables the random traffic is booked on, and how many orders they begin with.
+const TABLES: usize = 24;
+const GIVEN: [usize; 8] = [0, 3, 40, 200, 400, 508, 511, 512];
+/// The longest piece of the traffic, or little less.
+const LONGEST_PIECE: usize = 2_000;
+
+type Written = io::Result<()>;
+
+/// Writes all of them, with about a quarter as many booked pieces as the count says.
+pub fn write(count: u64, random: &mut Random, hand: &mut Hand) -> Written {
+    damages::write(count, random, hand)?;
+    lengths(random, hand)?;
+    any_bytes(random, hand)?;
+    bookings(random, hand)?;
+    bookings_when_full(random, hand)?;
+    repeated_keys(random, hand)?;
+    sheets(random, hand)?;
+    bad_cases(random, hand)?;
+    hand.name("random traffic on random tables")?;
+    for given in GIVEN.iter().cycle().take(TABLES) {
+        let day = random_day(*given, random);
+        traffic(day, count as usize / 4 / TABLES + 1, random, hand)?;
+    }
+    Ok(())
+}
+
+// Tables.
+
+fn junk(random: &mut Random, length: usize) -> Vec<u8> {
+    (0..length).map(|_| random.next() as u8).collect()
+}
+
+/// The day's table, its free slots holding any bytes.
+pub fn stored(day: &Day, random: &mut Random) -> Vec<u8> {
+    let mut table = junk(random, TABLE);
+    table::store(day, &mut table);
+    table
+}
+
+/// The day after lines that are all accepted.
+fn day_of(text: &[u8]) -> Day {
+    let mut day = Day::default();
+    for piece in text.split_inclusive(|byte| *byte == LF) {
+        day.book(piece).expect("the lines are lawful");
+    }
+    day
+}
+
+pub fn rich_table(random: &mut Random) -> Vec<u8> {
+    let unlike = other("A T2 7", &[(10, "AB D02"), (14, "S"), (16, "X     "), (20, "E"), (21, "000001")]);
+    stored(&day_of(&[capture(RICH[0]), unlike, capture(RICH[1])].concat()), random)
+}
+
+/// A table of 512 orders.
+pub fn full_table(random: &mut Random) -> Vec<u8> {
+    stored(&random_day(MOST, random), random)
+}
+
+/// A sound table of so many orders that no lines need lead to: elders anywhere earlier and of any
+/// side and series, any figures that add up, and now and then a key that is there already.
+pub fn random_day(orders: usize, random: &mut Random) -> Day {
+    let founding = *random.pick(&[1, 2, 8, 64]);
+    let mut all: Vec<Order> = Vec::with_capacity(orders);
+    let mut youngest: Vec<usize> = Vec::new();
+    for place in 0..orders {
+        let mut order = day_of(&lawful_line(b'A', random)).orders()[0].clone();
+        order.figures = spread(order.figures.size, random);
+        if place > 0 && random.once_in(32) {
+            order.key = random.pick(&all).key;
+        }
+        if place > 0 && !random.once_in(founding) {
+            let elder = youngest.swap_remove(random.below(youngest.len()));
+            let figures = &mut all[elder].figures;
+            figures.passed_on += figures.open;
+            figures.open = 0;
+            order.elder = Some(elder);
+        }
+        youngest.push(place);
+        all.push(order);
+    }
+    Day::of(all, random.once_in(24))
+}
+
+/// Half the time all of a size is open, else it is cut into four parts at any places.
+fn spread(size: u32, random: &mut Random) -> Figures {
+    let mut cuts = [0; 3];
+    if random.once_in(2) {
+        cuts.fill_with(|| random.below(size as usize + 1) as u32);
+        cuts.sort_unstable();
+    }
+    let [executed, cancelled, passed_on] = cuts;
+    let broken = random.below(executed as usize + 1) as u32;
+    Figures {
+        size,
+        executed,
+        broken,
+        cancelled: cancelled - executed,
+        passed_on: passed_on - cancelled,
+        open: size - passed_on,
+    }
+}
+
+// Lengths and contents.
+
+/// A sound table cut short or made longer: every entry, and making the empty table.
+fn lengths(random: &mut Random, hand: &mut Hand) -> Written {
+    let rich = rich_table(random);
+    for length in [0, 1, 7, HEADER, TABLE - SLOT, TABLE - 1, TABLE, TABLE + 1, TABLE + SLOT, LONGEST_TABLE] {
+        hand.name(&format!("a table of {length} bytes"))?;
+        let mut table = rich.clone();
+        table.resize(length, 0);
+        hand.take(table)?;
+        hand.check()?;
+        hand.ask_all()?;
+        hand.make_empty()?;
+        hand.check()?;
+        hand.ask_all()?;
+    }
+    Ok(())
+}
+
+/// Any bytes: as they come, under a header that could be one, and as an empty table.
+fn any_bytes(random: &mut Random, hand: &mut Hand) -> Written {
+    hand.name("any bytes")?;
+    for _ in 0..4 {
+        hand.take(junk(random, TABLE))?;
+        hand.check()?;
+        hand.ask_all()?;
+        for count in [1, 2, 9, 511, 512] {
+            hand.patch(0, &[count as u8, (count >> 8) as u8, 0, 0, 0, 0, 0, 0])?;
+            hand.check()?;
+            hand.ask(random.below(6))?;
+        }
+        hand.patch(0, &[0, 0, 0, 0, 1, 0, 0, 0])?;
+        hand.check()?;
+        hand.ask_all()?;
+        hand.make_empty()?;
+        hand.check()?;
+        hand.ask_all()?;
+        hand.show(0, 300)?;
+    }
+    for byte in [0, 1, b' ', b'A', 0xFF] {
+        hand.take(vec![byte; TABLE])?;
+        hand.check()?;
+        hand.ask_all()?;
+        hand.patch(0, &[1, 0, 0, 0, 0, 0, 0, 0])?;
+        hand.check()?;
+        hand.make_empty()?;
+        hand.ask_all()?;
+    }
+    Ok(())
+}
+
+// Booking.
+
+/// Books pieces one after another on the table in hand, shows the orders, and puts all back.
+fn booked(name: &str, pieces: &[Vec<u8>], hand: &mut Hand) -> Written {
+    let before = hand.table().to_vec();
+    hand.name(name)?;
+    for piece in pieces {
+        hand.book(piece)?;
+    }
+    hand.check()?;
+    hand.sheet(2_000)?;
+    for place in 0..=RICH_ORDERS as u64 + 1 {
+        hand.show(place, 80)?;
+    }
+    hand.restore(&before)
+}
+
+/// The pieces of the shorthand one by one.
+fn pieces(words: &str) -> Vec<Vec<u8>> {
+    words.split("; ").map(piece).collect()
+}
+
+/// Every refusal of booking but 5 and 12, and both sides of its bound.
+fn bookings(random: &mut Random, hand: &mut Hand) -> Written {
+    hand.take(rich_table(random))?;
+    let longer = [&piece("A T10 5")[..LINE - 2], b" \r\n"].concat();
+    let no_pieces = [vec![], b"\n".to_vec(), b"\r".to_vec(), b"\r\n\r\n".to_vec(), vec![b' '; LINE], longer];
+    let foreign = [0x1F, 0x7F, 0x0A, 0xFF].map(|byte| cases::with(&piece("E T9 1"), 40..41, &[byte]));
+    let fields: Vec<_> =
+        FIELDS.iter().map(|field| cases::with(&piece("E T9 1"), field.places(), &broken(field))).collect();
+    let unlawful = [no_pieces.to_vec(), foreign.to_vec(), fields].concat();
+    booked("1, 2 and 3, each field", &unlawful, hand)?;
+    let ended =
+        [pieces("end of day; end of day; A T10 5; E T9 1; U T10 for T9, 5; A T1 5; E T99 1"), unlawful].concat();
+    booked("6 after end of day, but 1, 2 and 3 still", &ended, hand)?;
+    for words in [
+        "A T1 5; A T9 5; U T1 for T9, 5; U T9 for T9, 5; U T1 for T99, 5; U T8 for T4, 5",
+        "A T2 5; A T10 5; A T10 5; U T11 for T10, 999999; A T10 1; U T10 for T11, 5",
+        "E T99 1; C T99 1; X T99 1; R T99 1; U T10 for T99, 5; U T10 for T10, 5; E T2 1; U T10 for T2, 1",
+        "E T9 51; E T9 50; E T9 1; X T9 1; R T9 1; U T10 for T9, 1",
+        "X T9 51; X T9 50; X T9 1",
+        "E T9 49; E T9 2; E T9 1",
+        "X T1 1; E T1 1; R T1 1; U T10 for T1, 1; X T3 1; E T7 1; R T7 1; U T10 for T8, 1",
+        "E T4 21; X T4 21; E T4 20; E T6 999999; E T6 1; C T6 999999; C T6 1",
+        "C T1 21; C T1 20; C T1 20; C T1 1; C T9 1; C T3 1; C T7 1; C T7 1",
+        "E T9 30; C T9 30; C T9 30; C T9 31; E T9 1; C T9 2; C T9 1",
+        "U T10 for T4, 999999; X T4 1; U T11 for T10, 1; U T12 for T11, 1; E T12 1; U T13 for T12, 1",
+        "R T9 999999; R T4 1; R T6 1",
+        "end of day",
+    ] {
+        booked(words, &pieces(words), hand)?;
+    }
+    let priced = |words, price| other(words, &[(22, price)]);
+    let prices = [
+        priced("R T9 1", "     00000"),
+        priced("R T4 1", "9999999999"),
+        priced("R T1 1", "     10000"),
+        priced("U T10 for T9, 5", "     00500"),
+        priced("A T11 5", " 123456789"),
+        priced("E T6 5", "     20000"),
+    ];
+    booked("A, U and R set the price", &prices, hand)?;
+    for words in ["E T9 51", "C T9 51", "X T9 51", "R T9 1", "U T10 for T9, 5"] {
+        let others = OTHERS.map(|change| other(words, &[change]));
+        booked(&format!("9, each field: {words}"), &others, hand)?;
+    }
+    let one_token: Vec<_> = ["A T2 5", "A T9 5", "E T9 1", "E T2 1", "U T8 for T9, 5", "U T10 for T2, 1"]
+        .into_iter()
+        .flat_map(|words| ["AB D02", "ABCD03"].map(|source| other(words, &[(10, source)])))
+        .collect();
+    booked("One token under other Sources", &one_token, hand)
+}
+
+/// Order 512 and order 513, and what is refused before 12.
+fn bookings_when_full(random: &mut Random, hand: &mut Hand) -> Written {
+    let lines: Vec<_> = (1..MOST).flat_map(|number| piece(&format!("A T{number} 100"))).collect();
+    hand.take(stored(&day_of(&lines), random))?;
+    for words in [
+        "A T512 7; A T513 7; U T513 for T1, 7; U T513 for T514, 7; U T513 for T513, 7; U T512 for T512, 7; A T512 7",
+        "U T512 for T511, 7; U T513 for T512, 7; U T513 for T511, 7; E T512 7; U T513 for T512, 7; X T1 100; C T1 1",
+        "A T512 7; R T512 1; E T511 100; C T511 100; end of day; A T513 7; end of day",
+        "end of day; A T512 7",
+    ] {
+        booked(words, &pieces(words), hand)?;
+    }
+    let others = OTHERS.map(|change| other("U T513 for T1, 7", &[change]));
+    booked("9 in a full table", &[vec![piece("A T512 7")], others.to_vec()].concat(), hand)?;
+    hand.book(&piece("A T512 7"))?;
+    for place in [510, 511, 512, 513] {
+        hand.show(place, 80)?;
+    }
+    hand.look_up(&key("T512"))?;
+    hand.sheet(WIDEST_SHEET as u32)
+}
+
+/// The earliest order with a key is found and booked, whatever the later ones are.
+fn repeated_keys(random: &mut Random, hand: &mut Hand) -> Written {
+    hand.take(rich_table(random))?;
+    let events = "E T9 1; X T9 1; C T9 1; R T9 1; U T10 for T9, 5; A T9 5; E T7 1";
+    let names = ["T1", "T3", "T4", "T5", "T6", "T7", "T8", "T9"];
+    for places in [vec![6], vec![1], vec![0], vec![3], vec![5, 7], vec![4, 5, 6, 7], (0..8).collect()] {
+        let before = hand.table().to_vec();
+        for place in &places {
+            hand.patch(slot(*place).start, &key("T9"))?;
+        }
+        for name in names {
+            hand.look_up(&key(name))?;
+        }
+        booked(&format!("The key of T9 at {places:?} too"), &pieces(events), hand)?;
+        hand.restore(&before)?;
+    }
+    Ok(())
+}
+
+// Sheets.
+
+/// Buffers around the length of the sheet: of no order, a few, many single ones, long families.
+fn sheets(random: &mut Random, hand: &mut Hand) -> Written {
+    let empty = stored(&Day::default(), random);
+    let rich = rich_table(random);
+    let full = [full_table(random), full_table(random), full_table(random)];
+    for table in [empty, rich].into_iter().chain(full) {
+        let length = table::load(&table).map_or(0, |day| sheet::text(&day).len()) as u32;
+        hand.name(&format!("a sheet of {length} bytes"))?;
+        hand.take(table)?;
+        for room in [0, 1, 19, 20, 21, length / 2, length - 1, length, length + 1, length + 100, 59_999, 60_000] {
+            hand.sheet(room)?;
+        }
+    }
+    Ok(())
+}
+
+// Cases that are none.
+
+fn bad_cases(random: &mut Random, hand: &mut Hand) -> Written {
+    hand.name("bad cases of tables")?;
+    let table = rich_table(random);
+    let end = TABLE as u32;
+    hand.take(table.clone())?;
+    for length in [LONGEST_TABLE + 1, LONGEST] {
+        hand.put(b't', &vec![0; length])?;
+        hand.check()?;
+    }
+    for (at, length) in [(end - 1, 2), (end, 1), (end + 1, 1), (0, TABLE + 1), (u32::MAX, 1), (u32::MAX - 1, 2)] {
+        hand.put(b'p', &patch_payload(at, &vec![0xFF; length]))?;
+    }
+    for (at, length) in [(0, 0), (end, 0), (end - 1, 1), (0, TABLE)] {
+        hand.put(b'p', &patch_payload(at, &table[table.len() - length..]))?;
+    }
+    for payload in [b"".as_slice(), b"\0", b"\0\0\0"] {
+        hand.put(b'p', payload)?;
+    }
+    for kind in *b"ed" {
+        hand.put(kind, b"\0")?;
+    }
+    for length in [0, 1, 8, 9, 11, 12, 90] {
+        hand.put(b'o', &vec![0; length])?;
+    }
+    for room in [0, 1, 79, 80, 81, 299, 300, 301, 336, 65_535] {
+        hand.put(b'o', &order_payload(8, room))?;
+    }
+    for place in [8, 9, 511, 512, 1 << 16, 1 << 32, 1 << 63, u64::MAX] {
+        hand.show(place, 79)?;
+        hand.show(place, 80)?;
+    }
+    for length in [0, 1, 3, 5, 8] {
+        hand.put(b'h', &vec![0; length])?;
+    }
+    for room in [60_001, 65_536, 1 << 16 | 600, u32::MAX] {
+        hand.sheet(room)?;
+    }
+    for length in [0, 1, 6, 20, 25, 26, 27, 52, LONGEST] {
+        hand.look_up(&key("T9").repeat(LONGEST / 26 + 1)[..length])?;
+    }
+    hand.book(&piece("A T10 5").repeat(LONGEST / LINE + 1)[..LONGEST])
+}
+
+// Random traffic.
+
+/// Books a stream on a day's table, other questions between the pieces.
+fn traffic(day: Day, count: usize, random: &mut Random, hand: &mut Hand) -> Written {
+    hand.take(stored(&day, random))?;
+    let mut stream = Stream::on(day, random.next(), count, LONGEST_PIECE);
+    while let Some(bytes) = stream.next() {
+        if random.once_in(64) {
+            // All at once is another piece, or the same.
+            hand.book(&[bytes.as_slice(), CR_LF].concat())?;
+        }
+        for piece in bytes.split_inclusive(|byte| *byte == LF) {
+            hand.book(piece)?;
+        }
+        if random.once_in(2) {
+            question(stream.day(), random, hand)?;
+        }
+    }
+    hand.sheet(WIDEST_SHEET as u32)
+}
+
+fn question(day: &Day, random: &mut Random, hand: &mut Hand) -> Written {
+    match random.below(32) {
+        0..=13 => hand.look_up(&some_key(day, random)),
+        14..=27 => {
+            let place = random.below(day.orders().len() + 2) as u64;
+            let room = if random.once_in(8) { *random.pick(&[0, 79, 81, 300]) } else { 80 };
+            hand.show(place, room)
+        }
+        28 => hand.check(),
+        29 => {
+            let length = sheet::text(day).len() as u32;
+            let rooms = [0, length - 1, length, length + 1, WIDEST_SHEET as u32];
+            hand.sheet(*random.pick(&rooms))
+        }
+        _ => {
+            let before = hand.table().to_vec();
+            let used = slot(day.orders().len()).start;
+            hand.patch(random.below(used), &[random.any() as u8])?;
+            hand.check()?;
+            hand.ask(random.below(6))?;
+            hand.restore(&before)
+        }
+    }
+}
+
+/// Mostly the key of an order, as it is or with one byte changed, cut off or added.
+fn some_key(day: &Day, random: &mut Random) -> Vec<u8> {
+    if day.orders().is_empty() {
+        return key("T1").to_vec();
+    }
+    let mut key = random.pick(day.orders()).key.to_vec();
+    match random.below(8) {
+        0 => key.truncate(random.below(26)),
+        1 => key.push(b' '),
+        2 => key[random.below(26)] = random.next() as u8,
+        _ => {}
+    }
+    key
+}

@@ -1,0 +1,353 @@
+//! The tests of the lent table: the layout, damage from both sides, and the bytes held against the
+//! abstract day over random streams and random tables.
+
+use std::iter;
+use std::sync::LazyLock;
+
+use crate::check::Law;
+use crate::day::{Day, Order, MOST};
+use crate::line::{LF, LINE};
+use crate::random::Random;
+use crate::refusal::Refusal;
+use crate::sheet;
+use crate::shorthand::{capture, key, piece};
+use crate::stream::Stream;
+use crate::sum::sum;
+use crate::table::{
+    self, slot, BROKEN, CANCELLED, ELDER, EXECUTED, HEADER, KEPT, OPEN, PASSED_ON, REST, SIZE, SLOT, TABLE,
+};
+use crate::table_cases::{random_day, stored};
+
+/// The streams of the laws, and the pieces of each.
+const SEEDS: u64 = 8;
+const PIECES: usize = 300;
+
+pub fn laws() -> [Law; 17] {
+    [
+        ("The sum is Adler-32", sums_are_adler),
+        ("A slot's parts lie one behind another over 80 bytes", parts_lie_in_a_row),
+        ("A random table that is stored loads again", stored_tables_load),
+        ("A table that loads has one form", tables_have_one_form),
+        ("A stream books the same into bytes as into the day", bytes_follow_the_day),
+        ("A booking changes the header and two slots at most, a refusal nothing", bookings_change_little),
+        ("Counts, the mark and the rest of the header", headers_are_judged),
+        ("A stored text, code, date, year, strike or price is judged as on a line", fields_are_judged),
+        ("Sizes, sums and broken, with numbers of 32 bits", figures_are_judged),
+        ("Every byte at the end of a slot must be 0", rests_are_judged),
+        ("An elder is earlier, has nothing open and one younger order", elders_are_judged),
+        ("Free slots are never judged", free_slots_are_free),
+        ("A table of another length is damaged, and can't be made empty", other_lengths_are_damaged),
+        ("A damaged table refuses every entry with 5 and keeps its bytes", damaged_tables_refuse),
+        ("The earliest order with a key is found and booked", the_earliest_is_found),
+        ("Each order of a random table is listed once", random_tables_are_listed),
+        ("A sheet or an order needs its whole room", rooms_are_needed),
+    ]
+}
+
+// The layout.
+
+fn sums_are_adler() -> bool {
+    let mut random = Random::new(1);
+    let bytes: Vec<_> = (0..TABLE).map(|_| random.next() as u8 | 0xF0).collect();
+    let (a, b) = bytes.iter().fold((1, 0), |(a, b), byte| {
+        let a = (a + u64::from(*byte)) % 65_521;
+        (a, (b + a) % 65_521)
+    });
+    sum(b"") == 1 && sum(b"Wikipedia") == 0x11E6_0398 && sum(&bytes) == b * 65_536 + a
+}
+
+fn parts_lie_in_a_row() -> bool {
+    let fields = KEPT.into_iter().map(|(_, places)| (places.start, places.len()));
+    let figures = [SIZE, EXECUTED, BROKEN, CANCELLED, PASSED_ON, OPEN].map(|at| (at, 4));
+    let mut parts = fields.chain([(ELDER, 2)]).chain(figures).chain([(REST, 5)]);
+    parts.try_fold(0, |end, (at, length)| (at == end).then_some(at + length)) == Some(SLOT)
+}
+
+/// Random tables of many sizes, junk in their free slots.
+fn random_tables() -> impl Iterator<Item = (Day, Vec<u8>)> {
+    let mut random = Random::new(2);
+    (0..60).map(move |number| {
+        let day = random_day([0, 1, 2, 9, 100, MOST - 1, MOST][number % 7], &mut random);
+        let table = stored(&day, &mut random);
+        (day, table)
+    })
+}
+
+fn stored_tables_load() -> bool {
+    random_tables().all(|(day, table)| table::load(&table) == Ok(day))
+}
+
+/// Some bytes of sound tables are changed: what loads then is stored as exactly these bytes.
+fn tables_have_one_form() -> bool {
+    let mut random = Random::new(3);
+    random_tables().filter(|(day, _)| day.orders().len() < 10).all(|(day, table)| {
+        let used = slot(day.orders().len()).start;
+        (0..400).all(|_| {
+            let mut changed = table.clone();
+            changed[random.below(used)] = random.next() as u8;
+            let Ok(day) = table::load(&changed) else { return true };
+            let mut again = changed.clone();
+            table::store(&day, &mut again);
+            again == changed
+        })
+    })
+}
+
+// Booking.
+
+/// Whether something holds before and after each piece of random streams on random tables: it is
+/// given the table before, the table after, the piece, and what booking said.
+fn at_each_booking(mut holds: impl FnMut(&[u8], &[u8], &[u8], Result<(), Refusal>) -> bool) -> bool {
+    (1..=SEEDS).all(|seed| {
+        let mut random = Random::new(seed);
+        let given = if seed == 1 { 0 } else { random.below(MOST + 1) };
+        let day = random_day(given, &mut random);
+        let mut table = stored(&day, &mut random);
+        Stream::on(day, seed, PIECES, 1_000).all(|bytes| {
+            bytes.split_inclusive(|byte| *byte == LF).all(|piece| {
+                let before = table.clone();
+                let result = table::book(&mut table, piece);
+                holds(&before, &table, piece, result)
+            })
+        })
+    })
+}
+
+fn bytes_follow_the_day() -> bool {
+    at_each_booking(|before, after, piece, result| {
+        let (Ok(mut day), Ok(booked)) = (table::load(before), table::load(after)) else { return false };
+        day.book(piece) == result && day == booked
+    }) && empty_tables_follow_the_day()
+}
+
+/// From the empty table on, the day being kept beside it.
+fn empty_tables_follow_the_day() -> bool {
+    (1..=SEEDS).all(|seed| {
+        let mut table = stored(&Day::default(), &mut Random::new(seed));
+        table[..HEADER].fill(0xFF);
+        let mut day = Day::default();
+        let made = table::make_empty(&mut table).is_ok();
+        made && Stream::on(Day::default(), seed, PIECES, 1_000).all(|bytes| {
+            let mut pieces = bytes.split_inclusive(|byte| *byte == LF);
+            pieces.all(|piece| table::book(&mut table, piece) == day.book(piece))
+        }) && table::load(&table) == Ok(day)
+    })
+}
+
+fn bookings_change_little() -> bool {
+    at_each_booking(|before, after, _, result| {
+        let slots = iter::zip(before[HEADER..].chunks(SLOT), after[HEADER..].chunks(SLOT));
+        let changed: Vec<_> = slots.enumerate().filter(|(_, (old, new))| old != new).map(|(place, _)| place).collect();
+        let count = |table: &[u8]| usize::from(table[0]) + 256 * usize::from(table[1]);
+        match result {
+            Ok(()) => changed.len() <= 2 && changed.iter().all(|place| *place < count(after)),
+            Err(_) => before == after,
+        }
+    })
+}
+
+// Damage.
+
+/// Three orders: T1 (of 100, 30 executed, 10 broken, 5 cancelled, 65 passed on), T2 (7, all
+/// cancelled), and T3, 60, in the place of T1.
+static THREE_ORDERS: LazyLock<Vec<u8>> = LazyLock::new(|| {
+    let mut table = stored(&Day::default(), &mut Random::new(4));
+    let lines = capture("A T1 100; E T1 30; C T1 10; X T1 5; A T2 7; X T2 7; U T3 for T1, 60");
+    for line in lines.chunks(LINE) {
+        table::book(&mut table, line).expect("the lines are lawful");
+    }
+    table
+});
+
+/// Whether the three orders are sound with other bytes in some places.
+fn sound_with(changes: &[(usize, &[u8])]) -> bool {
+    let mut table = THREE_ORDERS.clone();
+    for (at, bytes) in changes {
+        table[*at..at + bytes.len()].copy_from_slice(bytes);
+    }
+    table::load(&table).is_ok()
+}
+
+/// Whether the order at a place is sound with these bytes in one of its parts.
+fn sound_at(place: usize, part: usize, bytes: &[u8]) -> bool {
+    sound_with(&[(slot(place).start + part, bytes)])
+}
+
+/// Whether one of the three orders is sound with these figures.
+fn sound_figures(place: usize, figures: &[(usize, u32)]) -> bool {
+    let bytes: Vec<_> = figures.iter().map(|(part, figure)| (slot(place).start + part, figure.to_le_bytes())).collect();
+    sound_with(&bytes.iter().map(|(at, bytes)| (*at, bytes.as_slice())).collect::<Vec<_>>())
+}
+
+fn headers_are_judged() -> bool {
+    let count = |count: u32| sound_with(&[(0, &count.to_le_bytes())]);
+    let mut full = stored(&random_day(MOST, &mut Random::new(5)), &mut Random::new(6));
+    let full_loads = table::load(&full).is_ok();
+    full[..2].copy_from_slice(&513_u16.to_le_bytes());
+    let rests = (5..HEADER).all(|at| sound_with(&[(at, &[0])]) && !sound_with(&[(at, &[1])]));
+    (0..=3).all(count)
+        && ![4, 259, 512, 513, 1 << 16 | 3, 1 << 24 | 3, u32::MAX].into_iter().any(count)
+        && full_loads
+        && table::load(&full).is_err()
+        && (0..=255).all(|mark| sound_with(&[(4, &[mark])]) == (mark < 2))
+        && rests
+}
+
+fn fields_are_judged() -> bool {
+    let texts = [0, 6, 27].iter().all(|part| {
+        let first = |byte| sound_at(2, *part, &[byte]);
+        let inner = |byte| sound_at(2, part + 1, &[byte]);
+        (0..=255)
+            .all(|byte| first(byte) == (0x21..=0x7E).contains(&byte) && inner(byte) == (0x20..=0x7E).contains(&byte))
+    });
+    let codes = [(26, b'B'..=b'B'), (33, b'A'..=b'X'), (34, 1..=31), (35, 0..=99)].into_iter().all(|(part, lawful)| {
+        (0..=255).all(|byte| sound_at(2, part, &[byte]) == (lawful.contains(&byte) || part == 26 && byte == b'S'))
+    });
+    let strike = |code: u8, strike: u32| sound_at(2, 36, &[&[code][..], &strike.to_le_bytes()].concat());
+    let strikes = (0..=255).all(|code: u8| {
+        let known = (b'A'..=b'E').contains(&code);
+        let small = code == b'E';
+        [1, 99_999].iter().all(|digits| strike(code, *digits) == small)
+            && [100_000, 999_999].iter().all(|digits| strike(code, *digits) == known)
+            && ![0, 1_000_000, 1 << 24 | 205_750, u32::MAX].iter().any(|digits| strike(code, *digits))
+    });
+    let price = |price: u64| sound_at(2, 41, &price.to_le_bytes());
+    let lawful_prices = [0, 1, 9_999_999_999].into_iter().all(price);
+    texts && codes && strikes && lawful_prices && ![10_000_000_000, 1 << 63, u64::MAX].into_iter().any(price)
+}
+
+fn figures_are_judged() -> bool {
+    let size = |size| sound_figures(2, &[(SIZE, size), (OPEN, size)]);
+    let broken = |broken| sound_figures(0, &[(BROKEN, broken)]);
+    let parts = |[executed, cancelled, passed_on, open]: [u32; 4]| {
+        sound_figures(2, &[(EXECUTED, executed), (CANCELLED, cancelled), (PASSED_ON, passed_on), (OPEN, open)])
+    };
+    let half = 1 << 31;
+    let off_by_one = [SIZE, EXECUTED, CANCELLED, PASSED_ON].iter().zip([100, 30, 5, 65]).all(|(part, figure)| {
+        let with = |figure| sound_figures(0, &[(*part, figure)]);
+        with(figure) && !with(figure - 1) && !with(figure + 1)
+    });
+    [1, 999_999].into_iter().all(size)
+        && ![0, 1_000_000, u32::MAX].into_iter().any(size)
+        && [0, 10, 30].into_iter().all(broken)
+        && ![31, u32::MAX].into_iter().any(broken)
+        && [[0, 0, 0, 60], [60, 0, 0, 0], [0, 60, 0, 0], [0, 0, 60, 0], [15; 4]].into_iter().all(parts)
+        && ![[half, half, 0, 60], [u32::MAX, 1, 0, 60], [0, 0, 61, u32::MAX], [1, 0, 0, 60]].into_iter().any(parts)
+        && off_by_one
+}
+
+fn rests_are_judged() -> bool {
+    (REST..SLOT).all(|part| (0..=255).all(|byte| sound_at(1, part, &[byte]) == (byte == 0)))
+}
+
+fn elders_are_judged() -> bool {
+    let elder = |place, stored: u16| sound_at(place, ELDER, &stored.to_le_bytes());
+    let none_else =
+        |place, sound: &[u16]| (0..=u16::from(u8::MAX)).all(|stored| elder(place, stored) == sound.contains(&stored));
+    // T2, which has nothing open, may be the elder of T3 too; not T1 of T2, since it is that of T3.
+    let shared = slot(1).start + ELDER;
+    none_else(0, &[0])
+        && none_else(1, &[0])
+        && none_else(2, &[0, 1, 2])
+        && !elder(2, 257)
+        && !elder(2, 65_535)
+        && sound_with(&[(shared, &[1, 0]), (slot(2).start + ELDER, &[2, 0])])
+        && !sound_with(&[(shared, &[1, 0])])
+        && !sound_figures(0, &[(OPEN, 1), (SIZE, 101)])
+        && sound_figures(1, &[(OPEN, 7), (CANCELLED, 0)])
+}
+
+fn free_slots_are_free() -> bool {
+    [0, b' ', 0xFF].iter().all(|byte| {
+        let junk = vec![*byte; TABLE - slot(3).start];
+        sound_with(&[(slot(3).start, &junk)])
+    })
+}
+
+fn other_lengths_are_damaged() -> bool {
+    let table = THREE_ORDERS.clone();
+    [0, 1, 7, 8, TABLE - SLOT, TABLE - 1, TABLE + 1, TABLE + SLOT].into_iter().all(|length| {
+        let mut other = table.clone();
+        other.resize(length, 0);
+        let before = other.clone();
+        let refusal = if length < TABLE { Refusal::Buffer } else { Refusal::Damaged };
+        table::load(&other).is_err() && table::make_empty(&mut other) == Err(refusal) && other == before
+    })
+}
+
+fn damaged_tables_refuse() -> bool {
+    let mut table = THREE_ORDERS.clone();
+    table[4] = 2;
+    let before = table.clone();
+    let damaged = Refusal::Damaged;
+    let mut buffer = [0; 300];
+    let pieces = [piece("E T3 1"), piece("A T1 5"), piece("end of day"), vec![]];
+    pieces.iter().all(|piece| table::book(&mut table, piece) == Err(damaged))
+        && table == before
+        && table::look_up(&table, &key("T1")) == Err(damaged)
+        && table::look_up(&table, b"") == Err(damaged)
+        && table::write_order(&table, 9, &mut buffer[..1]) == Err(damaged)
+        && table::write_sheet(&table, &mut buffer[..1]) == Err(damaged)
+        && table::write_sheet(&table, &mut buffer) == Err(damaged)
+        && buffer == [0; 300]
+}
+
+// Entries.
+
+fn the_earliest_is_found() -> bool {
+    let mut table = THREE_ORDERS.clone();
+    table[slot(1)][..26].copy_from_slice(&key("T3"));
+    let after = table.clone();
+    // T2, now T3 by its key, has nothing open; the later T3 has 60.
+    table::look_up(&table, &key("T3")) == Ok(1)
+        && table::look_up(&table, &key("T2")) == Err(Refusal::UnknownKey)
+        && table::look_up(&table, &key("T3")[..25]) == Err(Refusal::UnknownKey)
+        && table::book(&mut table, &piece("E T3 1")) == Err(Refusal::TooLittleOpen)
+        && table::book(&mut table, &piece("A T3 1")) == Err(Refusal::KnownKey)
+        && table::book(&mut table, &piece("U T4 for T3, 1")) == Err(Refusal::TooLittleOpen)
+        && table == after
+}
+
+fn random_tables_are_listed() -> bool {
+    random_tables().all(|(day, _)| {
+        let text = String::from_utf8(sheet::text(&day)).expect("keys are printable");
+        let mut rows: Vec<_> = text.lines().skip(1).filter_map(|row| Some(row.split_once(' ')?.1)).collect();
+        let mut told: Vec<_> = day.orders().iter().map(row).collect();
+        rows.sort_unstable();
+        told.sort_unstable();
+        rows == told
+    })
+}
+
+/// What a row says of an order behind its family and place.
+fn row(order: &Order) -> String {
+    let figures = order.figures;
+    let (source, token) = (String::from_utf8_lossy(order.source()), String::from_utf8_lossy(order.token()));
+    let parts = [figures.size, figures.executed, figures.broken, figures.cancelled, figures.passed_on, figures.open];
+    let parts: Vec<_> = parts.iter().map(u32::to_string).collect();
+    format!("{} {source} {}", parts.join(" "), token.trim_end())
+}
+
+fn rooms_are_needed() -> bool {
+    random_tables().filter(|(day, _)| !day.orders().is_empty()).all(|(day, table)| {
+        let text = sheet::text(&day);
+        let mut buffer = vec![b'.'; text.len() + 1];
+        let (short, whole) = (text.len() - 1, text.len());
+        let refused = table::write_sheet(&table, &mut buffer[..short]) == Err(Refusal::Buffer);
+        let kept = buffer.iter().all(|byte| *byte == b'.');
+        let written = table::write_sheet(&table, &mut buffer) == Ok(whole);
+        let orders = day.orders().len() as u64;
+        let mut room = [b'.'; SLOT + 1];
+        refused
+            && kept
+            && written
+            && buffer[..whole] == text
+            && buffer[whole] == b'.'
+            && table::write_order(&table, orders, &mut room[..SLOT - 1]) == Err(Refusal::Buffer)
+            && table::write_order(&table, orders, &mut room) == Err(Refusal::UnknownKey)
+            && room == [b'.'; SLOT + 1]
+            && table::write_order(&table, orders - 1, &mut room).is_ok()
+            && room[..SLOT] == table[slot(day.orders().len() - 1)]
+            && room[SLOT] == b'.'
+    })
+}

@@ -1,0 +1,158 @@
+//! Cases about texts: the next piece, and the steps of the sheet program.
+
+use std::io::{self, Write};
+
+use crate::cases::put;
+use crate::day::Day;
+use crate::line::{BODY, CR_LF, LINE};
+use crate::random::Random;
+use crate::shorthand::{capture, piece, WHOLE_CASE};
+use crate::stream::Stream;
+use crate::trial::LONGEST;
+
+/// What a step may write.
+const ROOMS: [u32; 4] = [64, 65, 100, 60_000];
+/// How many random captures there are for each room and each list of sizes, and the pieces of each.
+const CAPTURES: usize = 2;
+const PIECES: usize = 40;
+/// The longest piece of a random capture, or little less.
+const LONGEST_PIECE: usize = 1_500;
+
+type Written = io::Result<()>;
+
+/// Writes all of them.
+pub fn write(random: &mut Random, out: &mut impl Write) -> Written {
+    put(out, b'n', b"next pieces")?;
+    next_pieces(random, out)?;
+    put(out, b'n', b"captures by name")?;
+    named_captures(random, out)?;
+    put(out, b'n', b"random captures")?;
+    random_captures(random, out)?;
+    put(out, b'n', b"bad cases of texts")?;
+    bad_cases(out)
+}
+
+pub fn piece_payload(place: u64, text: &[u8]) -> Vec<u8> {
+    [&place.to_le_bytes(), text].concat()
+}
+
+pub fn capture_payload(room: u32, sizes: &[u16], text: &[u8]) -> Vec<u8> {
+    let count = sizes.len() as u16;
+    let sizes: Vec<_> = sizes.iter().flat_map(|size| size.to_le_bytes()).collect();
+    [&room.to_le_bytes()[..], &count.to_le_bytes(), &sizes, text].concat()
+}
+
+// The next piece.
+
+/// From every place of short texts, and far past their end; and from some places of a long one.
+fn next_pieces(random: &mut Random, out: &mut impl Write) -> Written {
+    let two = [piece("A T1 5"), piece("E T1 1")].concat();
+    let unfinished = &two[..two.len() - 1];
+    let noise: Vec<_> = (0..80).map(|_| *random.pick(b"\nA\r\0\x0B\xFF")).collect();
+    let short: [&[u8]; 10] =
+        [b"", b"\n", b"A", b"\n\n\n", CR_LF, b"A\nB", b"A\n\nB\n", b"\r\n\r\n\r", b"\n\r\0\xFF\x0B\x85", &noise];
+    for text in short.into_iter().chain([&two[..], unfinished]) {
+        let end = text.len() as u64;
+        let places = (0..=end + 2).chain([1 << 16, 1 << 32, (1 << 32) + 1, 1 << 63, u64::MAX - 1, u64::MAX]);
+        for place in places {
+            put(out, b'x', &piece_payload(place, text))?;
+        }
+    }
+    let mut long = vec![b'A'; LONGEST - 8];
+    put(out, b'x', &piece_payload(0, &long))?;
+    long[60_000] = b'\n';
+    for place in [1, 60_000, 60_001] {
+        put(out, b'x', &piece_payload(place, &long))?;
+    }
+    Ok(())
+}
+
+// The sheet program's steps.
+
+/// A random capture, now and then broken off in its last piece.
+fn random_capture(random: &mut Random) -> Vec<u8> {
+    let mut stream = Stream::on(Day::default(), random.next(), PIECES, LONGEST_PIECE);
+    let mut text: Vec<_> = stream.by_ref().flatten().collect();
+    text.extend(stream.rest());
+    text
+}
+
+/// Chunks around the length of a line, and lists of them.
+fn lists_of_sizes(random: &mut Random) -> Vec<Vec<u16>> {
+    let mut lists =
+        vec![vec![1], vec![2], vec![139], vec![140], vec![141], vec![1, 139], vec![140, 2, 138], vec![65_535]];
+    let mut by_chance = |most: u64| (0..10).map(|_| random.between(1, most) as u16).collect();
+    lists.extend([by_chance(5), by_chance(300), by_chance(10_000)]);
+    lists
+}
+
+fn named_captures(random: &mut Random, out: &mut impl Write) -> Written {
+    let whole = capture(WHOLE_CASE);
+    let line = piece("A T1 5");
+    let huge = [vec![b'x'; 20_000], CR_LF.to_vec(), line.clone(), line[..BODY].repeat(60), line.clone()].concat();
+    let families: Vec<_> =
+        (1..=60).flat_map(|number| piece(&format!("U T{} for T{number}, {number}", number + 1))).collect();
+    let texts = [
+        vec![],
+        b"\n".to_vec(),
+        CR_LF.to_vec(),
+        b"\r".to_vec(),
+        [CR_LF, CR_LF, b"\n\r"].concat(),
+        vec![b'\n'; 300],
+        vec![b'x'; 141],
+        line.clone(),
+        line[..LINE - 1].to_vec(),
+        line[..BODY].to_vec(),
+        [&line[..], &line[..1]].concat(),
+        [b" ", &line[..]].concat(),
+        [&line[..], &whole[LINE..], CR_LF].concat(),
+        [piece("A T1 1"), families].concat(),
+        whole,
+        huge,
+    ];
+    let lists = lists_of_sizes(random);
+    for (number, text) in texts.iter().enumerate() {
+        for turn in 0..4 {
+            let room = ROOMS[turn];
+            let sizes = &lists[(number + 3 * turn) % lists.len()];
+            put(out, b'c', &capture_payload(room, sizes, text))?;
+        }
+    }
+    let many: Vec<_> = (1..=460).flat_map(|number| piece(&format!("A T{number} {number}"))).collect();
+    put(out, b'c', &capture_payload(64, &[4_096], &many))?;
+    put(out, b'c', &capture_payload(60_000, &vec![3; 500], &many))
+}
+
+fn random_captures(random: &mut Random, out: &mut impl Write) -> Written {
+    for _ in 0..CAPTURES {
+        for sizes in lists_of_sizes(random) {
+            for room in ROOMS {
+                put(out, b'c', &capture_payload(room, &sizes, &random_capture(random)))?;
+            }
+        }
+    }
+    Ok(())
+}
+
+// Cases that are none.
+
+fn bad_cases(out: &mut impl Write) -> Written {
+    let text = capture(WHOLE_CASE);
+    for room in [0, 1, 63, 60_001, 65_536, 1 << 16 | 64, u32::MAX] {
+        put(out, b'c', &capture_payload(room, &[140], &text))?;
+    }
+    for sizes in [[].as_slice(), &[0], &[0, 1], &[1, 0], &[1, 2, 0, 3]] {
+        put(out, b'c', &capture_payload(64, sizes, &text))?;
+    }
+    // Cut short in the room, the number of sizes, the sizes; whole, with an empty text.
+    let whole = capture_payload(64, &[1, 2, 3], b"");
+    for length in 0..=whole.len() {
+        put(out, b'c', &whole[..length])?;
+    }
+    let endless = [&64_u32.to_le_bytes()[..], &[0xFF; 2], &[1; 1_000]].concat();
+    put(out, b'c', &endless)?;
+    for length in 0..=8 {
+        put(out, b'x', &vec![0; length])?;
+    }
+    Ok(())
+}
