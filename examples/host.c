@@ -58,5 +58,6 @@ int main(void)
         return EXIT_FAILURE;
     fwrite(sheet, 1, written, stdout);
     free(text);
-    return EXIT_SUCCESS;
+    /* What could not be written must not pass for a sheet. */
+    return fflush(stdout) == 0 && !ferror(stdout) ? EXIT_SUCCESS : EXIT_FAILURE;
 }

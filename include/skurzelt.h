@@ -28,7 +28,7 @@ enum {
     SKURZELT_DAMAGED = 5,       /* the table is damaged */
     SKURZELT_DAY_OVER = 6,      /* end of day was booked before */
     SKURZELT_KNOWN_KEY = 7,     /* A or U: the key is in the table */
-    SKURZELT_UNKNOWN_KEY = 8,   /* the key, or the elder's, is not in the table */
+    SKURZELT_UNKNOWN_KEY = 8,   /* the key, or the elder's, is not in the table; no order is at the place */
     SKURZELT_OTHER_SERIES = 9,  /* side or series differs */
     SKURZELT_NOT_OPEN = 10,     /* more than is open, or nothing is open */
     SKURZELT_NOT_EXECUTED = 11, /* more than executed less broken */
@@ -54,11 +54,12 @@ static inline unsigned skurzelt_field(uint32_t answer) { return answer / 256; }
    nothing. Refuses 4 (record under 138 bytes), 1, 2, 3. */
 uint32_t skurzelt_read(const uint8_t *piece, size_t piece_length, uint8_t *record, size_t record_length, uint64_t *kind);
 
-/* Writes the line of a record into the first 140 bytes of line. Refuses 4 (line under 140 bytes); 3 for a byte of the record that has no meaning;
-   3 for the first field that breaks its rule. */
+/* Writes the line of a record into the first 140 bytes of line. Refuses 4 (line under 140 bytes); 3 for a byte of the record that has no meaning, or
+   field 24 for a record that is not 138 bytes long; then 3 for the first field that breaks its rule. */
 uint32_t skurzelt_write(const uint8_t *record, size_t record_length, uint8_t *line, size_t line_length);
 
-/* A strike's value in hundred-thousandths of a dollar, from its denominator code and its six digits as a number. Refuses 3. */
+/* A strike's value in hundred-thousandths of a dollar, from its denominator code and its six digits as a number. Refuses 3, field 20 (the code) or
+   21 (the digits). */
 uint32_t skurzelt_strike_value(uint8_t denominator, uint64_t strike, uint64_t *value);
 
 /* The one form of a value: denominator code and digits. Refuses 3, field 21, exactly when there is none. */
@@ -75,7 +76,8 @@ uint32_t skurzelt_empty_table(uint8_t *table, size_t table_length);
 /* Whether a table is damaged: 0, or 5. */
 uint32_t skurzelt_check_table(const uint8_t *table, size_t table_length);
 
-/* The place, from 0, of the earliest order with a key (Source, then Token). Refuses 5, then 8: no order has the key. */
+/* The place, from 0, of the earliest order with a key (Source, then Token). Refuses 5, then 8: no order has the key, nor one of another length than
+   26. */
 uint32_t skurzelt_find_order(const uint8_t *table, size_t table_length, const uint8_t *key, size_t key_length, uint64_t *place);
 
 /* Copies the order at a place into the first 80 bytes of order. Refuses 5, 4 (order under 80 bytes), then 8: no order is there. */
@@ -84,7 +86,8 @@ uint32_t skurzelt_order_at(const uint8_t *table, size_t table_length, uint64_t p
 /* Books a piece. Refuses 5, 1, 2, 3, then 6 to 12. */
 uint32_t skurzelt_book(uint8_t *table, size_t table_length, const uint8_t *piece, size_t piece_length);
 
-/* Writes the family sheet into the first *written bytes of out. Refuses 5, then 4 (out too short). */
+/* Writes the family sheet into the first *written bytes of out. Refuses 5, then 4 (out too short). Takes about 300 bytes of stack for each order,
+   152 KiB measured for a full table. */
 uint32_t skurzelt_sheet(const uint8_t *table, size_t table_length, uint8_t *out, size_t out_length, uint64_t *written);
 
 /* ---- texts */

@@ -91,7 +91,7 @@ impl LongDay {
     /// The next line, of as many as there are to be.
     fn line(&mut self) -> [u8; LINE] {
         let pace = (self.count / EARLY / ORDERS as u64).max(2);
-        let grows = self.records.len() < ORDERS && self.lines.is_multiple_of(pace);
+        let grows = self.records.len() < ORDERS && self.lines % pace == 0;
         let place = if grows { self.new_order() } else { self.event() };
         let record = &mut self.records[place];
         record.set_number(TIMESTAMP, OPENING + TRADING * self.lines / self.count);

@@ -31,7 +31,7 @@ pub fn value(code: u8, digits: u64) -> Result<u64, Refusal> {
 pub fn form(value: u64) -> Result<(u8, u64), Refusal> {
     UNITS
         .iter()
-        .find(|(code, unit)| value.is_multiple_of(*unit) && lawful(*code, value / unit))
+        .find(|(code, unit)| value % unit == 0 && lawful(*code, value / unit))
         .map(|(code, unit)| (*code, value / unit))
         .ok_or(Refusal::Field(STRIKE))
 }

@@ -1,0 +1,96 @@
+/* Calls every function of include/skurzelt.h with known values, so that the header is held to the archive. Prints what differs. */
+
+#include <stdio.h>
+#include <string.h>
+
+#include "skurzelt.h"
+
+static int failed;
+
+static void expect(const char *what, uint64_t got, uint64_t wanted)
+{
+    if (got != wanted) {
+        printf("door: %s is %llu, not %llu\n", what, (unsigned long long)got, (unsigned long long)wanted);
+        failed = 1;
+    }
+}
+
+/* The first piece of a text: its length. */
+static size_t first_piece(const uint8_t *text, size_t length)
+{
+    uint64_t end = 0;
+    expect("next_piece", skurzelt_next_piece(text, length, 0, &end), 0);
+    return end;
+}
+
+static void lines(const uint8_t *line)
+{
+    uint8_t record[SKURZELT_RECORD], back[SKURZELT_LINE];
+    uint64_t kind = 7;
+    expect("read into a short record", skurzelt_read(line, SKURZELT_LINE, record, sizeof record - 1, &kind), SKURZELT_NO_ROOM);
+    expect("kind after a refusal", kind, 7);
+    expect("read", skurzelt_read(line, SKURZELT_LINE, record, sizeof record, &kind), 0);
+    expect("kind", kind, 1);
+    expect("type in the record", record[8], 'A');
+    expect("contracts in the record", record[86], 100);
+    expect("write into a short line", skurzelt_write(record, sizeof record, back, sizeof back - 1), SKURZELT_NO_ROOM);
+    expect("write", skurzelt_write(record, sizeof record, back, sizeof back), 0);
+    expect("the line back", memcmp(line, back, sizeof back), 0);
+    record[85] = 'Q';
+    uint32_t answer = skurzelt_write(record, sizeof record, back, sizeof back);
+    expect("refusal of a bad side", skurzelt_refusal(answer), SKURZELT_FIELD);
+    expect("field of a bad side", skurzelt_field(answer), 14);
+}
+
+static void numbers(void)
+{
+    uint64_t value = 7, denominator = 7, strike = 7, hours, minutes, seconds, milliseconds;
+    expect("strike_value", skurzelt_strike_value('C', 205750, &value), 0);
+    expect("value of C 205750", value, 20575000);
+    expect("strike_form", skurzelt_strike_form(1000000, &denominator, &strike), 0);
+    expect("denominator of 1,000,000", denominator, 'D');
+    expect("strike of 1,000,000", strike, 100000);
+    expect("strike_form of 1,000,005", skurzelt_strike_form(1000005, &denominator, &strike), SKURZELT_FIELD + 256 * 21);
+    expect("clock", skurzelt_clock(34293104, &hours, &minutes, &seconds, &milliseconds), 0);
+    expect("hours", hours, 9);
+    expect("minutes", minutes, 31);
+    expect("seconds", seconds, 33);
+    expect("milliseconds", milliseconds, 104);
+}
+
+static void tables(const uint8_t *line)
+{
+    static uint8_t table[SKURZELT_TABLE];
+    uint8_t order[SKURZELT_ORDER], sheet[128];
+    uint64_t place = 7, written = 7;
+    const char *wanted = "orders 1 families 1\n1.1 100 0 0 0 0 100 ABCD01 T1\n";
+    memset(table, 0xAA, sizeof table);
+    expect("check_table of any bytes", skurzelt_check_table(table, sizeof table), SKURZELT_DAMAGED);
+    expect("empty_table", skurzelt_empty_table(table, sizeof table), 0);
+    expect("check_table", skurzelt_check_table(table, sizeof table), 0);
+    expect("book", skurzelt_book(table, sizeof table, line, SKURZELT_LINE), 0);
+    expect("book again", skurzelt_book(table, sizeof table, line, SKURZELT_LINE), SKURZELT_KNOWN_KEY);
+    expect("find_order", skurzelt_find_order(table, sizeof table, line + 30, SKURZELT_KEY, &place), 0);
+    expect("place", place, 0);
+    expect("order_at", skurzelt_order_at(table, sizeof table, place, order, sizeof order), 0);
+    expect("the order's key", memcmp(order, line + 30, SKURZELT_KEY), 0);
+    expect("order_at the next place", skurzelt_order_at(table, sizeof table, 1, order, sizeof order), SKURZELT_UNKNOWN_KEY);
+    expect("sheet", skurzelt_sheet(table, sizeof table, sheet, sizeof sheet, &written), 0);
+    expect("bytes of the sheet", written, strlen(wanted));
+    expect("the sheet", memcmp(sheet, wanted, strlen(wanted)), 0);
+}
+
+/* Standard input is a capture whose first line is A T1 for 100 of ABCD01. */
+int main(void)
+{
+    static uint8_t text[4096];
+    size_t length = fread(text, 1, sizeof text, stdin);
+    if (first_piece(text, length) != SKURZELT_LINE) {
+        puts("door: no line to begin with");
+        return 1;
+    }
+    lines(text);
+    numbers();
+    tables(text);
+    return failed;
+}
