@@ -21,7 +21,7 @@ use Rattle.book.specs.Bytes.{readBytes, bookBytes, bookAnswer, bytesAfte
 use Rattle.book.specs.Promises.{bookingOf}
 use Rattle.book.specs.Wrong.{Keeps, RefusesAll, ChangesNothing, NodsAtRest, ChangesRefusing, BooksDamaged, BooksOtherLength}
 use Rattle.book.specs.declared.Booking.{Booking}
-use Rattle.book.specs.declared.Booking.the-variants.{Booked, Refused}
+use Rattle.book.specs.declared.Booking.the-variants.{Booked}
 use Rattle.book.proofs.Determined.{book-determined}
 use Rattle.book.proofs.Reached.{reached-bytes}
 

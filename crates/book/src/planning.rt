@@ -91,7 +91,7 @@ fn plan_older(t: &[u8], r: Record) -> Plan
     plan_by(i, o, r)
 }
 
-// What no test refused. Only an A has no order at a place; the place is then not looked at.
+// What no test refused. An A never comes here; a match has all its cases.
 fn plan_by(i: usize, o: Order, r: Record) -> Plan
     requires { ⌜ Sound (o .figures) ⌝ }
     requires { ⌜ notOpen r (found o) ≡ false ⌝ }

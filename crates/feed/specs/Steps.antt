@@ -63,7 +63,7 @@ stepOver room held line table (p ∷ ps) =
 abbrev pub stepFrom : ℕ → Between → List ℕ → Step
 stepFrom room (between held line table) chunk = stepOver room held line table (pieces chunk)
 
--- "A last piece without LF is a piece": what is held when the text ends
+-- 01, The line: a piece runs "or to the end of the text": what is held when the text ends is the last one
 abbrev pub lastSaid : Between → List ℕ
 lastSaid (between [] line table) = []
 lastSaid (between (b ∷ s) line table) = report line (bookAnswer table (b ∷ s))

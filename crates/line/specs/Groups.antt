@@ -1,4 +1,4 @@
--- What the functions that read a line a group of fields at a time leave to the next. Nothing here is the paper's: specs/Promises.antt says what the entries promise.
+-- What the functions that read a line a group of fields at a time leave to the next. What the entries promise is in specs/Promises.antt.
 use Prim.Native.Nat.{ℕ}
 use mathlib.Core.Bool.{Bool, true, false, cond, _||_}
 use mathlib.Core.List.{List, [], _∷_}

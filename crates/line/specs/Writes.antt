@@ -1,4 +1,4 @@
--- What the functions that check and write a record a group of fields at a time leave to the next. Nothing here is the paper's: specs/Promises.antt says what the entries promise.
+-- What the functions that check and write a record a group of fields at a time leave to the next. What the entries promise is in specs/Promises.antt.
 use Prim.Native.Nat.{ℕ}
 use mathlib.Core.Bool.{Bool, true, false, cond}
 use mathlib.Core.List.{List, _++_}

@@ -6,7 +6,6 @@ ghost use Rattle.layout.specs.Rule.{code, text};
 ghost use Rattle.layout.specs.Rule.{kept as Rule·kept};
 ghost use Prim.Native.Nat.{_≤_};
 ghost use lib.ListN.{length};
-ghost use lib.Dec.{eqb};
 use field::Bytes;
 use field::Number;
 use field::digits;
