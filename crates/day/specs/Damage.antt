@@ -5,9 +5,10 @@ use mathlib.Core.List.{List, [], _∷_, map}
 use lib.Dec.{leb, eqb}
 use lib.ListN.{length}
 use Rattle.field.specs.Kept.{member}
-use Rattle.layout.specs.Layout.{sides, months, denominators, leastStrike}
+use Rattle.layout.specs.Layout.{keepsRule}
 use Rattle.layout.specs.Records.{one}
-use Rattle.layout.specs.Rule.{digits, price, code, kept, text, num, run, lawful}
+use Rattle.layout.specs.Rule.{num, run}
+use Rattle.layout.specs.Strikes.{lawfulStrike}
 use Rattle.order.specs.declared.Figures.{Figures}
 use Rattle.order.specs.declared.Key.{Key}
 use Rattle.order.specs.declared.Order.{Order}
@@ -16,15 +17,16 @@ use Rattle.day.specs.Machine.{Table}
 
 -- fields 10 and 11
 abbrev pub lawfulKey : Key → Bool
-lawfulKey k = lawful (kept text) 6 (run (k .source)) && lawful (kept text) 20 (run (k .token))
+lawfulKey k = keepsRule 10 (run (k .source)) && keepsRule 11 (run (k .token))
 
 -- fields 16 to 21
 abbrev pub lawfulSeries : Series → Bool
 lawfulSeries s =
-    lawful (kept text) 6 (run (s .root)) && lawful (code months) 1 (one (s .month)) && lawful (digits 1 31) 2 (num (s .date))
-    && lawful (digits 0 99) 2 (num (s .year))
-    && lawful (code denominators) 1 (one (s .denominator))
-    && lawful (digits (leastStrike (s .denominator)) 999999) 6 (num (s .strike))
+    keepsRule 16 (run (s .root)) && keepsRule 17 (one (s .month))
+    && keepsRule 18 (num (s .date))
+    && keepsRule 19 (num (s .year))
+    && keepsRule 20 (one (s .denominator))
+    && lawfulStrike (s .denominator) (s .strike)
 
 -- a size outside 1 to 999,999; broken above executed; size unequal to executed + cancelled + passed on + open
 abbrev pub soundFigures : Figures → Bool
@@ -35,7 +37,7 @@ soundFigures f =
 -- fields 14 and 22 too
 abbrev pub soundOrder : Order → Bool
 soundOrder o =
-    lawfulKey (o .key) && lawful (code sides) 1 (one (o .side)) && lawfulSeries (o .series) && lawful price 10 (num (o .price))
+    lawfulKey (o .key) && keepsRule 14 (one (o .side)) && lawfulSeries (o .series) && keepsRule 22 (num (o .price))
     && soundFigures (o .figures)
 
 abbrev pub allSound : List Order → Bool

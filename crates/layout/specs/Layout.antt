@@ -122,3 +122,12 @@ placed n at (r ∷ rs) = eqb (r .no) n && eqb (r .at) at && placed (n + 1) (at +
 abbrev pub fitting : List Row → Bool
 fitting [] = true
 fitting (r ∷ rs) = fits (r .rule) (r .len) && fitting rs
+
+-- the field of that number
+abbrev pub fieldNo : ℕ → List Row → Row
+fieldNo n [] = row 0 0 0 (kept blank)
+fieldNo n (r ∷ rs) = cond (eqb (r .no) n) r (fieldNo n rs)
+
+-- a value keeps the rule of its field. Of a field whose rule goes by no other one: any type and any denominator will do
+abbrev pub keepsRule : ℕ → Value → Bool
+keepsRule n v = lawful (fieldNo n (layout 65 65) .rule) (fieldNo n (layout 65 65) .len) v
