@@ -16,9 +16,10 @@ use Rattle.line.specs.declared.Outcome.{Outcome}
 use Rattle.order.specs.declared.Figures.{Figures}
 use Rattle.order.specs.declared.Order.{Order}
 use Rattle.day.specs.Machine.{withFigures}
-use Rattle.table.specs.Slots.{orderIn, slotBytes}
-use Rattle.table.specs.Tables.{countIn, slot, slotAt, sound, tableIn}
-use Rattle.table.proofs.Laws.{header-kept}
+use Rattle.slot.specs.Slots.{orderIn, slotBytes}
+use Rattle.slot.specs.Places.{slot, slotAt}
+use Rattle.table.specs.Tables.{countIn, sound, tableIn}
+use Rattle.slot.proofs.Laws.{header-kept}
 use Rattle.book.specs.Bytes.{changedAt, appended, bookBytes, bookAnswer}
 use Rattle.book.specs.Plans.{Inside, refigured, Plans, BooksSaid, answerOf, afterPlan}
 use Rattle.book.specs.Promises.{Books, bookingOf}

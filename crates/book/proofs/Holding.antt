@@ -16,11 +16,12 @@ use Rattle.layout.specs.Layout.{part}
 use Rattle.order.specs.declared.Key.{Key}
 use Rattle.order.specs.declared.Order.{Order}
 use Rattle.day.specs.Machine.{Table, place, amend}
-use Rattle.table.specs.Slots.{slotBytes, termsBytes, figuresBytes, orderIn, Fits}
-use Rattle.table.specs.Tables.{slotAt, slot, countIn, ordersIn, tableIn}
-use Rattle.table.proofs.Laws.{stored-here, stored-elsewhere, header-kept, header-byte, orders-kept, orders-set, orders-append, length-orders, order-no}
-use Rattle.table.proofs.Lookups.{at-found, amend-at}
-use Rattle.table.proofs.Said.{length-slot}
+use Rattle.slot.specs.Slots.{slotBytes, termsBytes, figuresBytes, orderIn, Fits}
+use Rattle.slot.specs.Places.{slotAt, slot, ordersIn}
+use Rattle.table.specs.Tables.{countIn, tableIn}
+use Rattle.slot.proofs.Laws.{stored-here, stored-elsewhere, header-kept, header-byte, orders-kept, orders-set, orders-append, length-orders, order-no}
+use Rattle.slot.proofs.Lookups.{at-found, amend-at}
+use Rattle.slot.proofs.Said.{length-slot}
 use Rattle.book.specs.Bytes.{changed, appended}
 
 abbrev pub TailZero : List ℕ → ℕ → Type 0

@@ -26,10 +26,10 @@ use Rattle.day.proofs.Admitted.{Admitted, admitted, Spoken, spoken}
 use Rattle.day.proofs.Orders.{Finds, stands, length-amend}
 use Rattle.day.proofs.Sound.{book-undamaged}
 use Rattle.day.proofs.Undamaged.{apart}
-use Rattle.table.specs.Slots.{Fits}
+use Rattle.slot.specs.Slots.{Fits}
 use Rattle.table.specs.Tables.{limitOf, tableIn, sound}
 use Rattle.table.proofs.Limits.{limit-is, limit-most}
-use Rattle.table.proofs.Room.{sound-fits}
+use Rattle.slot.proofs.Room.{sound-fits}
 use Rattle.book.specs.Bytes.{changed, eventBytes, acceptBytes, readBytes, bookBytes}
 use Rattle.book.proofs.Holding.{Holds, AllFit, changed-holds, appended-holds, over-holds}
 use Rattle.book.proofs.Sound.{sound-holds, holds-sound}

@@ -22,8 +22,9 @@ use Rattle.order.specs.declared.Order.{Order}
 use Rattle.day.specs.History.{isNew, isMaker, isReplace}
 use Rattle.day.specs.Machine.{nobody, found, find, isFound, place, differs, notOpen, notExecuted, refusalOf, withFigures, withPrice, newOrder}
 use Rattle.day.specs.Refusals.{subject}
-use Rattle.table.specs.Slots.{orderIn}
-use Rattle.table.specs.Tables.{limitOf, slot, tableIn}
+use Rattle.slot.specs.Slots.{orderIn}
+use Rattle.slot.specs.Places.{slot}
+use Rattle.table.specs.Tables.{limitOf, tableIn}
 use Rattle.book.specs.Bytes.{changedAt, changed, appended, eventBytes}
 use Rattle.book.specs.Plans.{Inside, Plans, RoomFor, planBy, answerOf, afterPlan}
 use Rattle.book.specs.declared.Plan.{Plan}

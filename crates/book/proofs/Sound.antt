@@ -13,7 +13,8 @@ use Rattle.layout.specs.Layout.{part}
 use Rattle.layout.proofs.Rules.{both}
 use Rattle.day.specs.Damage.{undamaged}
 use Rattle.day.specs.Machine.{Table}
-use Rattle.table.specs.Tables.{slotAt, countIn, limitOf, tableIn, tailsZero, sound}
+use Rattle.slot.specs.Places.{slotAt}
+use Rattle.table.specs.Tables.{countIn, limitOf, tableIn, tailsZero, sound}
 use Rattle.table.proofs.Limits.{limit-is, limit-most}
 use Rattle.book.proofs.Holding.{TailZero, Holds}
 

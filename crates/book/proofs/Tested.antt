@@ -11,7 +11,7 @@ use Rattle.layout.specs.declared.Trade.{Trade}
 use Rattle.order.specs.declared.Key.{Key}
 use Rattle.order.specs.declared.Order.{Order}
 use Rattle.day.specs.Machine.{found, find, isFound, place, notOpen, notExecuted}
-use Rattle.table.proofs.Lookups.{at-found, nobody-found}
+use Rattle.slot.proofs.Lookups.{at-found, nobody-found}
 use lib.ListN.{length}
 use lib.Seq.{take-all}
 use Rattle.layout.specs.Layout.{part}

@@ -13,11 +13,12 @@ use Rattle.order.specs.declared.Key.{Key}
 use Rattle.order.specs.declared.Order.{Order}
 use Rattle.day.specs.Machine.{found, find, place}
 use Rattle.day.proofs.Undamaged.{sums}
-use Rattle.table.specs.Slots.{orderIn}
-use Rattle.table.specs.Tables.{countIn, limitOf, slot, sound, tableIn}
-use Rattle.table.proofs.Laws.{length-orders, order-no}
+use Rattle.slot.specs.Slots.{orderIn}
+use Rattle.slot.specs.Places.{slot}
+use Rattle.table.specs.Tables.{countIn, limitOf, sound, tableIn}
+use Rattle.slot.proofs.Laws.{length-orders, order-no}
 use Rattle.table.proofs.Limits.{slot-inside}
-use Rattle.table.proofs.Lookups.{at-found}
+use Rattle.slot.proofs.Lookups.{at-found}
 use Rattle.table.proofs.Whole.{whole}
 use Rattle.book.specs.Plans.{Inside}
 

@@ -17,8 +17,9 @@ use Rattle.order.specs.declared.Key.{Key}
 use Rattle.order.specs.declared.Order.{Order}
 use Rattle.day.specs.Machine.{place, refusalOf, withFigures, withPrice, newOrder}
 use Rattle.day.specs.Machine.{book as bookDay}
-use Rattle.table.specs.Slots.{orderIn, slotBytes}
-use Rattle.table.specs.Tables.{slotAt, slot, countIn, limitOf, tableIn, sound}
+use Rattle.slot.specs.Slots.{orderIn, slotBytes}
+use Rattle.slot.specs.Places.{slotAt, slot}
+use Rattle.table.specs.Tables.{countIn, limitOf, tableIn, sound}
 
 -- the order at place i changed
 abbrev pub changedAt : ℕ → (Order → Order) → List ℕ → List ℕ

@@ -11,7 +11,8 @@ use Rattle.layout.specs.declared.Record.{Record}
 use Rattle.order.specs.Figure.{executedBy, brokenBy, cancelledBy, passedOn}
 use Rattle.order.specs.declared.Figures.{Figures}
 use Rattle.day.specs.Machine.{bookSaid, withFigures, withPrice, newOrder}
-use Rattle.table.specs.Tables.{slotAt, countIn, limitOf, tableIn}
+use Rattle.slot.specs.Places.{slotAt}
+use Rattle.table.specs.Tables.{countIn, limitOf, tableIn}
 use Rattle.book.specs.Bytes.{changedAt, appended, saidBytes}
 use Rattle.book.specs.Promises.{bookingOf}
 use Rattle.book.specs.declared.Booking.{Booking}

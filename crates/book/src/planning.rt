@@ -15,17 +15,16 @@ use layout::Event;
 use layout::Record;
 use order::Order;
 use refusal::Refusal;
-use table::Place;
+use slot::Place;
 use table::damage;
-use table::lookup;
-use table::slots;
+use table::header;
 
 // The tests that need no order of the table come first, as 01 has them.
 pub fn plan(t: &[u8], r: Record) -> Plan
     requires { ⌜ sound (now t) ≡ true ⌝ }
     ensures { λ p. ⌜ Plans (now (t .entry)) r p ⌝ }
 {
-    if slots::is_over(t) {
+    if header::is_over(t) {
         return Plan::No(Refusal::DayOver);
     }
     if is_taken(t, r) {
@@ -50,7 +49,7 @@ fn is_taken(t: &[u8], r: Record) -> bool
     if !tests::is_maker(event) {
         return false;
     }
-    let Place::At(_) = lookup::find_key(t, slots::count(t) as usize, order::key_of(r)) else {
+    let Place::At(_) = slot::find_key(t, header::count(t) as usize, order::key_of(r)) else {
         return false;
     };
     true
@@ -60,7 +59,7 @@ fn is_full(t: &[u8]) -> bool
     requires { ⌜ sound (now t) ≡ true ⌝ }
     ensures { λ x. ⌜ x ≡ leb (limitOf (length (now (t .entry)))) (length (tableIn (now (t .entry)) .orders)) ⌝ }
 {
-    damage::limit(t.len()) <= slots::count(t)
+    damage::limit(t.len()) <= header::count(t)
 }
 
 // A line about an order of the table.
@@ -71,10 +70,10 @@ fn plan_older(t: &[u8], r: Record) -> Plan
     requires { ⌜ isNew (r .event) ≡ false ⌝ }
     ensures { λ p. ⌜ Plans (now (t .entry)) r p ⌝ }
 {
-    let Place::At(i) = lookup::find_key(t, slots::count(t) as usize, tests::subject(r)) else {
+    let Place::At(i) = slot::find_key(t, header::count(t) as usize, tests::subject(r)) else {
         return Plan::No(Refusal::UnknownKey);
     };
-    let o = slots::order_at(t, i);
+    let o = slot::order_at(t, i);
     if tests::differs(o, r) {
         return Plan::No(Refusal::OtherSeries);
     }

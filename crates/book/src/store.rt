@@ -16,7 +16,7 @@ use order::Figures;
 use order::Order;
 use refusal::Refusal;
 use table::damage;
-use table::slots;
+use table::header;
 
 // Any bytes for a table, any piece. On a refusal not one byte is changed.
 pub fn book(t: &mut [u8], piece: &[u8]) -> Booking
@@ -46,10 +46,10 @@ fn book_end(t: &mut [u8]) -> Booking
     requires { ⌜ sound (now t) ≡ true ⌝ }
     ensures { λ x. ⌜ BooksSaid (now (t .entry)) endOfDay x (now (t .exit)) ⌝ }
 {
-    if slots::is_over(t) {
+    if header::is_over(t) {
         return Booking::Refused(Refusal::DayOver);
     }
-    slots::put_over(t);
+    header::put_over(t);
     Booking::Booked
 }
 
@@ -97,25 +97,25 @@ fn append(t: &mut [u8], o: Order)
     requires { ⌜ Inside (countIn (now t)) (now t) ⌝ }
     ensures { λ _. ⌜ now (t .exit) ≡ appended o (now (t .entry)) ⌝ }
 {
-    let n = slots::count(t);
-    slots::store(t, n as usize, o);
-    slots::put_count(t, n + 1);
+    let n = header::count(t);
+    slot::store(t, n as usize, o);
+    header::put_count(t, n + 1);
 }
 
 fn refigure(t: &mut [u8], i: usize, f: Figures)
     requires { ⌜ Inside i (now t) ⌝ }
     ensures { λ _. ⌜ now (t .exit) ≡ refigured i f (now (t .entry)) ⌝ }
 {
-    let mut o = slots::order_at(t, i);
+    let mut o = slot::order_at(t, i);
     o.figures = f;
-    slots::store(t, i, o);
+    slot::store(t, i, o);
 }
 
 fn reprice(t: &mut [u8], i: usize, p: u64)
     requires { ⌜ Inside i (now t) ⌝ }
     ensures { λ _. ⌜ now (t .exit) ≡ changedAt i (withPrice p) (now (t .entry)) ⌝ }
 {
-    let mut o = slots::order_at(t, i);
+    let mut o = slot::order_at(t, i);
     o.price = p;
-    slots::store(t, i, o);
+    slot::store(t, i, o);
 }

@@ -30,7 +30,7 @@ use Rattle.day.specs.History.{isNew, isMaker}
 use Rattle.day.specs.Machine.{Table, find, place, isFound, differs, notOpen, notExecuted, refusalOf, Booked, bookRead}
 use Rattle.day.specs.Refusals.{subject}
 use Rattle.table.specs.Entries.{placeOr8, lookUpAnswer, copyAnswer, copiedFrom}
-use Rattle.table.specs.Slots.{keyIn}
+use Rattle.slot.specs.Slots.{keyIn}
 use Rattle.table.specs.Tables.{tableLength, limitOf, countIn, tableIn, sound, makeAnswer, madeFrom}
 use Rattle.book.specs.Bytes.{bookAnswer}
 use Rattle.book.proofs.Refuted.{refusal-stays}

@@ -7,8 +7,8 @@ use mathlib.Core.List.{List}
 use lib.ListN.{length, take, drop, length-take}
 use Rattle.cell.proofs.Laws.{length-part, part-part}
 use Rattle.order.specs.declared.Figures.{Figures}
-use Rattle.table.specs.Slots.{figuresIn, orderIn}
-use Rattle.table.specs.Tables.{slot, slotAt}
+use Rattle.slot.specs.Slots.{figuresIn, orderIn}
+use Rattle.slot.specs.Places.{slot, slotAt}
 use Rattle.row.specs.Texts.{decimal, trimmed, figuresText, namesText, rankText, rowText}
 use Rattle.row.specs.Writes.{Put, Wrote}
 use Rattle.row.proofs.Decimals.{decimal-most}

@@ -2,8 +2,8 @@
 ghost use Prim.Native.Nat.{_+_, _≤_};
 ghost use mathlib.Core.Path.{_≡_};
 ghost use lib.ListN.{length, take};
-ghost use Rattle.table.specs.Slots.{orderIn};
-ghost use Rattle.table.specs.Tables.{slot, slotAt};
+ghost use Rattle.slot.specs.Slots.{orderIn};
+ghost use Rattle.slot.specs.Places.{slot, slotAt};
 ghost use Rattle.row.specs.Texts.{column, decimal, figuresText, namesText, rankText, rowText, tradedText, trimmed};
 ghost use Rattle.row.specs.Writes.{Put, Wrote};
 
@@ -12,7 +12,10 @@ pub mod heading;
 
 use field::put;
 use order::Figures;
-use table::slots;
+use slot::HEADER;
+use slot::KEY;
+use slot::SLOT;
+use slot::TOKEN;
 
 // How much of a run is left without the spaces on its right.
 fn unpadded(s: &[u8]) -> usize
@@ -94,10 +97,14 @@ pub fn length(t: &[u8], i: usize, family: u64, rank: u64) -> usize
     requires { ⌜ slotAt i + 80 ≤ length (now t) ⌝ }
     ensures { λ r. ⌜ r ≡ length (rowText family rank (orderIn (slot (now (t .entry)) i))) ⌝ }
 {
-    let at = 8 + 80 * i;
-    let figures = figures_length(slots::figures_in(&t[at..at + 80]));
+    let at = HEADER + SLOT * i;
+    let figures = figures_length(slot::figures_in(&t[at..at + SLOT]));
     // The dot, the six Source bytes, the spaces before Source and Token, the LF.
-    decimal::digits(family) + decimal::digits(rank) + figures + unpadded(&t[at + 6..at + 26]) + 10
+    decimal::digits(family)
+        + decimal::digits(rank)
+        + figures
+        + unpadded(&t[at + TOKEN..at + KEY])
+        + 10
 }
 
 // Source and Token are lent from the table as they stand there.
@@ -106,8 +113,13 @@ pub fn write(t: &[u8], i: usize, family: u64, rank: u64, out: &mut [u8]) -> usiz
     requires { ⌜ length (rowText family rank (orderIn (slot (now t) i))) ≤ length (now out) ⌝ }
     ensures { λ r. ⌜ Wrote (rowText family rank (orderIn (slot (now (t .entry)) i))) (now (out .entry)) (now (out .exit)) r ⌝ }
 {
-    let at = 8 + 80 * i;
+    let at = HEADER + SLOT * i;
     let rank_end = put_rank(out, 0, family, rank);
-    let figures_end = put_figures(out, rank_end, slots::figures_in(&t[at..at + 80]));
-    put_names(out, figures_end, &t[at..at + 6], &t[at + 6..at + 26])
+    let figures_end = put_figures(out, rank_end, slot::figures_in(&t[at..at + SLOT]));
+    put_names(
+        out,
+        figures_end,
+        &t[at..at + TOKEN],
+        &t[at + TOKEN..at + KEY],
+    )
 }

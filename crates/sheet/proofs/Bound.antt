@@ -20,9 +20,10 @@ use Rattle.day.proofs.Shown.{rows-counted}
 use Rattle.day.proofs.Undamaged.{apart}
 use Rattle.row.specs.Texts.{heading, rowText}
 use Rattle.row.proofs.Bounds.{heading-bound, row-bound}
-use Rattle.table.specs.Tables.{countIn, limitOf, ordersIn, sound, tableIn}
+use Rattle.slot.specs.Places.{ordersIn}
+use Rattle.table.specs.Tables.{countIn, limitOf, sound, tableIn}
 use Rattle.table.proofs.Limits.{limit-most}
-use Rattle.table.proofs.Splits.{length-orders}
+use Rattle.slot.proofs.Laws.{length-orders}
 use Rattle.table.proofs.Whole.{whole}
 use Rattle.sheet.specs.Promises.{textOf}
 use Rattle.sheet.specs.Texts.{rowAt, rowsText}

@@ -8,7 +8,7 @@ use borrow.Author.Tests.{leb-true, leb-false, le-leb, lt-leb, lt-ltb, le-ltb}
 use lib.Dec.{leb}
 use lib.ListN.{length, length-append}
 use Rattle.day.specs.Listing.{families}
-use Rattle.table.specs.Tables.{ordersIn}
+use Rattle.slot.specs.Places.{ordersIn}
 use Rattle.sheet.specs.Texts.{rowsText}
 use Rattle.sheet.specs.Walk.{Stands, eldersIn, familiesText, rowsBehind, rowsLeft}
 use Rattle.sheet.specs.declared.Turn.{Turn}

@@ -6,8 +6,8 @@ use mathlib.Core.List.{List, [], _++_}
 use lib.ListN.{length, drop, length-append}
 use Rattle.row.specs.Texts.{rowText}
 use Rattle.row.specs.Writes.{Wrote}
-use Rattle.table.specs.Slots.{orderIn}
-use Rattle.table.specs.Tables.{ordersIn, slot}
+use Rattle.slot.specs.Slots.{orderIn}
+use Rattle.slot.specs.Places.{ordersIn, slot}
 use Rattle.sheet.specs.Texts.{rowAt, rowsText}
 use Rattle.sheet.specs.Walk.{Stands, eldersIn, familiesText, membersText, rowsBehind, seek}
 use Rattle.sheet.specs.declared.Turn.{Turn}

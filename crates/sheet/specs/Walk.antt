@@ -6,7 +6,7 @@ use lib.Dec.{ltb, eqb}
 use lib.ListN.{drop}
 use Rattle.day.specs.Damage.{eldersOf}
 use Rattle.day.specs.Listing.{Row, row, below, families}
-use Rattle.table.specs.Tables.{ordersIn}
+use Rattle.slot.specs.Places.{ordersIn}
 use Rattle.sheet.specs.Texts.{rowsText}
 use Rattle.sheet.specs.declared.Turn.{Turn}
 

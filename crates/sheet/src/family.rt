@@ -2,7 +2,7 @@
 // orders not yet listed fall at each row.
 ghost use Prim.Native.Nat.{_+_, _≤_};
 ghost use lib.ListN.{length};
-ghost use Rattle.table.specs.Tables.{slotAt};
+ghost use Rattle.slot.specs.Places.{slotAt};
 ghost use Rattle.sheet.specs.Walk.{Stands, familiesText, membersText};
 ghost use Rattle.row.specs.Writes.{Wrote};
 use crate::Turn;

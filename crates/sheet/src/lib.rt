@@ -11,7 +11,7 @@ mod walk;
 use refusal::Refusal;
 use row::heading;
 use table::damage;
-use table::slots;
+use table::header;
 
 // The answer: how many bytes were written.
 pub enum Writing {
@@ -42,7 +42,7 @@ pub fn write_sound(t: &[u8], out: &mut [u8]) -> Writing
     requires { ⌜ sound (now t) ≡ true ⌝ }
     ensures { λ x. ⌜ Sheets (now (t .entry)) (now (out .entry)) x (now (out .exit)) ⌝ }
 {
-    let n = slots::count(t) as usize;
+    let n = header::count(t) as usize;
     let families = walk::count_roots(t, n);
     let head = heading::length(n as u64, families);
     if out.len() < head {

@@ -3,7 +3,7 @@ ghost use Prim.Native.Nat.{_≤_};
 ghost use mathlib.Core.Path.{_≡_};
 ghost use lib.Dec.{leb};
 ghost use lib.ListN.{length};
-ghost use Rattle.table.specs.Tables.{slotAt};
+ghost use Rattle.slot.specs.Places.{slotAt};
 ghost use Rattle.sheet.specs.Walk.{familiesText};
 use crate::walk;
 

@@ -3,7 +3,7 @@ ghost use Prim.Native.Nat.{_≤_, _<_};
 ghost use mathlib.Core.Path.{_≡_};
 ghost use lib.ListN.{length, drop};
 ghost use Rattle.day.specs.Listing.{families, rootCount};
-ghost use Rattle.table.specs.Tables.{slotAt};
+ghost use Rattle.slot.specs.Places.{slotAt};
 ghost use Rattle.sheet.specs.Walk.{Stands, eldersIn, rowsBehind, rowsLeft, seek as Walk·seek};
 use crate::Turn;
 
@@ -15,7 +15,7 @@ pub fn seek(t: &[u8], n: usize, from: usize, e: u64) -> usize
 {
     let mut i = from;
     while i < n {
-        if cell::get(t, 8 + 80 * i + 49, 2) == e {
+        if slot::elder_at(t, i) == e {
             return i;
         }
         i += 1;
@@ -31,7 +31,7 @@ pub fn count_roots(t: &[u8], n: usize) -> u64
     let mut roots = 0;
     let mut i = 0;
     while i < n {
-        if cell::get(t, 8 + 80 * i + 49, 2) == 0 {
+        if slot::elder_at(t, i) == 0 {
             roots += 1;
         }
         i += 1;

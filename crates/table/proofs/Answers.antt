@@ -12,8 +12,9 @@ use Rattle.layout.specs.Layout.{part}
 use Rattle.order.specs.declared.Order.{Order}
 use Rattle.day.specs.Damage.{undamaged}
 use Rattle.table.specs.Passing.{isMarked, elderFits, slotsSound}
-use Rattle.table.specs.Slots.{orderIn}
-use Rattle.table.specs.Tables.{countIn, limitOf, slot, sound, tableIn, tailsZero}
+use Rattle.slot.specs.Slots.{orderIn}
+use Rattle.slot.specs.Places.{slot}
+use Rattle.table.specs.Tables.{countIn, limitOf, sound, tableIn, tailsZero}
 
 -- ---- a test, and what it was said to be
 

@@ -12,8 +12,9 @@ use Rattle.refusal.specs.declared.Refusal.the-variants.{NoRoom, Damaged, Unknow
 use Rattle.layout.specs.Layout.{part}
 use Rattle.day.specs.Machine.{place}
 use Rattle.table.specs.Promises.{LooksUp, Copies}
-use Rattle.table.specs.Slots.{keyIn}
-use Rattle.table.specs.Tables.{countIn, slotAt, sound, tableIn}
+use Rattle.slot.specs.Slots.{keyIn}
+use Rattle.slot.specs.Places.{slotAt}
+use Rattle.table.specs.Tables.{countIn, sound, tableIn}
 use Rattle.table.specs.declared.Found.the-variants.{At as FoundAt, Refused as NotFound}
 use Rattle.table.specs.declared.Made.the-variants.{Done, Refused}
 use Rattle.table.proofs.Whole.{whole}

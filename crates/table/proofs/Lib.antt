@@ -1,16 +1,9 @@
 pub mod Answers
 pub mod Asking
 pub mod Determined
-pub mod Fields
-pub mod Laws
 pub mod Limits
-pub mod Lookups
 pub mod Making
 pub mod Marking
 pub mod Passes
-pub mod Room
-pub mod Runs
-pub mod Said
-pub mod Search
 pub mod Splits
 pub mod Whole

@@ -5,7 +5,8 @@ use mathlib.Core.Path.{_≡_, refl}
 use mathlib.Core.Bool.{Bool, true, false, cond}
 use borrow.Author.Tests.{eqb-true, eq-eqb, ne-eqb}
 use lib.Dec.{eqb}
-use Rattle.table.specs.Tables.{limitOf, slotAt}
+use Rattle.slot.specs.Places.{slotAt}
+use Rattle.table.specs.Tables.{limitOf}
 
 pub limit-is : (len : ℕ) → len ≡ 40968 → 512 ≡ limitOf len
 limit-is len e = rw (eq-eqb len 40968 e)

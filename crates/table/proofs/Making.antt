@@ -14,7 +14,8 @@ use Rattle.cell.proofs.Laws.{part-inside, part-whole, getD-part}
 use Rattle.layout.specs.Layout.{part}
 use Rattle.day.specs.Machine.{empty}
 use Rattle.table.specs.Promises.{Makes}
-use Rattle.table.specs.Tables.{countIn, ordersIn, tableIn, sound}
+use Rattle.slot.specs.Places.{ordersIn}
+use Rattle.table.specs.Tables.{countIn, tableIn, sound}
 use Rattle.table.specs.declared.Made.the-variants.{Done, Refused}
 
 -- ---- the three answers

@@ -15,11 +15,13 @@ use Rattle.day.specs.Damage.{soundOrder, eldersOf, openAt, undamaged}
 use Rattle.day.proofs.Orders.{length-elders, sole-member}
 use Rattle.day.proofs.Undamaged.{Undamaged, apart, whole, behind}
 use Rattle.table.specs.Passing.{Marks, isMarked, roomIn, openIn, tailZero, slotFits, elderFits, slotsSound}
-use Rattle.table.specs.Slots.{orderIn}
-use Rattle.table.specs.Tables.{countIn, limitOf, ordersIn, slot, tableIn, tailsZero}
+use Rattle.slot.specs.Slots.{orderIn}
+use Rattle.slot.specs.Places.{ordersIn, slot}
+use Rattle.table.specs.Tables.{countIn, limitOf, tableIn, tailsZero}
+use Rattle.slot.proofs.Laws.{length-orders}
 use Rattle.table.proofs.Limits.{limit-most}
 use Rattle.table.proofs.Marking.{none-marked}
-use Rattle.table.proofs.Splits.{length-orders, open-orders, orders-at, sound-among, earlier-among, closed-among, unshared-among, member-behind}
+use Rattle.table.proofs.Splits.{open-orders, orders-at, sound-among, earlier-among, closed-among, unshared-among, member-behind}
 
 -- i slots are passed: their orders are undamaged, their elders are marked, and the tails of the others decide
 pub record Passed (s flags : List ℕ) (i : ℕ) : Type 0 where

@@ -14,14 +14,10 @@ use Rattle.order.specs.declared.Order.{Order}
 use Rattle.day.specs.Damage.{soundOrder, allSound, earlier, unshared, openAt, closed}
 use Rattle.day.proofs.Orders.{sole}
 use Rattle.table.specs.Passing.{openIn}
-use Rattle.table.specs.Slots.{orderIn}
-use Rattle.table.specs.Tables.{ordersIn, slot}
+use Rattle.slot.specs.Slots.{orderIn}
+use Rattle.slot.specs.Places.{ordersIn, slot}
 
 -- ---- the orders that slots say
-
-pub length-orders : (k n : ℕ) (s : List ℕ) → length (ordersIn k n s) ≡ n
-length-orders k zero s = refl
-length-orders k (suc n) s = ap suc (length-orders (k + 1) n s)
 
 pub open-orders : (k n : ℕ) (s : List ℕ) (i p : ℕ) → i < n → p ≡ k + i → openAt (ordersIn k n s) i ≡ openIn s p
 open-orders k zero s i p h e = absurd (omega arith)

@@ -12,7 +12,8 @@ use Rattle.field.specs.Byte.{all}
 use Rattle.layout.specs.Layout.{part}
 use Rattle.layout.proofs.Rules.{both}
 use Rattle.day.specs.Damage.{undamaged}
-use Rattle.table.specs.Tables.{countIn, limitOf, slotAt, sound, tableIn, tailsZero}
+use Rattle.slot.specs.Places.{slotAt}
+use Rattle.table.specs.Tables.{countIn, limitOf, sound, tableIn, tailsZero}
 use Rattle.table.proofs.Limits.{slot-inside}
 
 slots-inside : (len n : ℕ) → 0 < limitOf len → n ≤ limitOf len → slotAt n ≤ len

@@ -7,8 +7,9 @@ use lib.ListN.{length}
 use lib.Seq.{sets}
 use Rattle.refusal.specs.Answer.{Answer, value, refused}
 use Rattle.day.specs.Machine.{place}
-use Rattle.table.specs.Slots.{keyIn}
-use Rattle.table.specs.Tables.{countIn, slot, tableIn, sound}
+use Rattle.slot.specs.Slots.{keyIn}
+use Rattle.slot.specs.Places.{slot}
+use Rattle.table.specs.Tables.{countIn, tableIn, sound}
 
 -- a place that is counted from 1, 0 being none
 abbrev pub placeOr8 : ℕ → Answer ℕ

@@ -10,8 +10,9 @@ use Rattle.field.specs.Byte.{all}
 use Rattle.layout.specs.Layout.{part}
 use Rattle.order.specs.declared.Order.{Order}
 use Rattle.day.specs.Damage.{soundOrder, undamaged}
-use Rattle.table.specs.Slots.{orderIn}
-use Rattle.table.specs.Tables.{countIn, limitOf, slot, slotAt, tableIn, tailsZero}
+use Rattle.slot.specs.Slots.{orderIn}
+use Rattle.slot.specs.Places.{slot, slotAt}
+use Rattle.table.specs.Tables.{countIn, limitOf, tableIn, tailsZero}
 
 -- how many orders have a flag
 abbrev pub roomIn : List ℕ → ℕ

@@ -1,7 +1,7 @@
--- docs/LAYOUT.md, The lent table: header, slots, and when its bytes have a meaning.
+-- docs/LAYOUT.md, The lent table: the table that bytes say, and when they have a meaning.
 use Prim.Native.Nat.{ℕ, zero, suc, _+_, _*_}
 use mathlib.Core.Bool.{Bool, true, cond, _&&_}
-use mathlib.Core.List.{List, [], _∷_}
+use mathlib.Core.List.{List}
 use lib.Dec.{ltb, leb, eqb}
 use lib.ListN.{length, getD, replicate}
 use lib.Seq.{sets}
@@ -9,18 +9,13 @@ use Rattle.cell.specs.Cells.{le, isZero}
 use Rattle.field.specs.Byte.{all}
 use Rattle.refusal.specs.Answer.{Answer, value, refused}
 use Rattle.layout.specs.Layout.{part}
-use Rattle.order.specs.declared.Order.{Order}
 use Rattle.day.specs.Damage.{undamaged}
 use Rattle.day.specs.Machine.{Table}
-use Rattle.table.specs.Slots.{orderIn}
+use Rattle.slot.specs.Places.{slotAt, ordersIn}
 
 -- the bytes of a table with room for so many orders
 abbrev pub tableLength : ℕ → ℕ
 tableLength limit = 8 + 80 * limit
-
--- the place of a slot
-abbrev pub slotAt : ℕ → ℕ
-slotAt i = 8 + 80 * i
 
 -- how many orders a table of so many bytes has room for; 0 where the length has no meaning
 abbrev pub limitOf : ℕ → ℕ
@@ -28,14 +23,6 @@ limitOf n = cond (eqb n (tableLength 512)) 512 0
 
 abbrev pub countIn : List ℕ → ℕ
 countIn s = le (part s 0 4)
-
-abbrev pub slot : List ℕ → ℕ → List ℕ
-slot s i = part s (slotAt i) 80
-
--- the first n orders
-abbrev pub ordersIn : ℕ → ℕ → List ℕ → List Order
-ordersIn i zero s = []
-ordersIn i (suc n) s = orderIn (slot s i) ∷ ordersIn (i + 1) n s
 
 -- the table that the bytes say
 abbrev pub tableIn : List ℕ → Table

@@ -2,18 +2,17 @@
 ghost use Rattle.table.specs.Promises.{LooksUp, Copies};
 use crate::Found;
 use crate::Made;
-use crate::Place;
 use crate::damage;
-use crate::lookup;
-use crate::slots;
+use crate::header;
 use field::put;
 use refusal::Refusal;
+use slot::HEADER;
+use slot::KEY;
+use slot::Place;
+use slot::SLOT;
+use slot::TOKEN;
 
-// Source and Token of a key, one behind the other.
-const KEY: usize = 26;
-
-const SLOT: usize = 80;
-
+// A key is its Source and its Token, one behind the other, as a slot has them.
 pub fn look_up(t: &[u8], key: &[u8]) -> Found
     ensures { λ r. ⌜ LooksUp (now (t .entry)) (now (key .entry)) r ⌝ }
 {
@@ -23,7 +22,12 @@ pub fn look_up(t: &[u8], key: &[u8]) -> Found
     if key.len() != KEY {
         return Found::Refused(Refusal::UnknownKey);
     }
-    match lookup::find(t, slots::count(t) as usize, &key[0..6], &key[6..26]) {
+    match slot::find(
+        t,
+        header::count(t) as usize,
+        &key[0..TOKEN],
+        &key[TOKEN..KEY],
+    ) {
         Place::At(i) => Found::At(i),
         Place::Nobody => Found::Refused(Refusal::UnknownKey),
     }
@@ -39,10 +43,10 @@ pub fn copy_order(t: &[u8], i: usize, out: &mut [u8]) -> Made
     if out.len() < SLOT {
         return Made::Refused(Refusal::NoRoom);
     }
-    if slots::count(t) as usize <= i {
+    if header::count(t) as usize <= i {
         return Made::Refused(Refusal::UnknownKey);
     }
-    let at = 8 + 80 * i;
-    put::run(out, 0, &t[at..at + 80]);
+    let at = HEADER + SLOT * i;
+    put::run(out, 0, &t[at..at + SLOT]);
     Made::Done
 }

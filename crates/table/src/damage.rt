@@ -8,17 +8,22 @@ ghost use Rattle.cell.specs.Cells.{isZero};
 ghost use Rattle.field.specs.Byte.{all};
 ghost use Rattle.layout.specs.Layout.{part};
 ghost use Rattle.table.specs.Passing.{elderFits, roomIn, slotFits, slotsSound};
-ghost use Rattle.table.specs.Tables.{countIn, limitOf, slotAt, sound};
+ghost use Rattle.slot.specs.Places.{slotAt};
+ghost use Rattle.table.specs.Tables.{countIn, limitOf, sound};
+use crate::LIMIT;
+use crate::TABLE;
 use crate::flags;
-use crate::slots;
-use crate::stored;
+use crate::header;
 use order::Order;
+use slot::HEADER;
+use slot::REST;
+use slot::SLOT;
 
 // How many orders a table of so many bytes has room for, or 0.
 pub fn limit(len: usize) -> u64
     ensures { λ r. ⌜ r ≡ limitOf len ⌝ }
 {
-    if len == 40_968 { 512 } else { 0 }
+    if len == TABLE { LIMIT } else { 0 }
 }
 
 fn sound_header(t: &[u8]) -> bool
@@ -33,7 +38,7 @@ fn sound_slot(t: &[u8], i: usize, o: Order) -> bool
     requires { ⌜ slotAt i + 80 ≤ length (now t) ⌝ }
     ensures { λ r. ⌜ r ≡ slotFits (now (t .entry)) i o ⌝ }
 {
-    cell::zeros(t, 8 + 80 * i + 75, 5) & stored::sound_order(o)
+    cell::zeros(t, HEADER + SLOT * i + REST, 5) & stored::sound_order(o)
 }
 
 // The elder's slot is read only once it is known to be an earlier one.
@@ -51,7 +56,7 @@ fn sound_elder(t: &[u8], flags: &[u8], i: usize, e: usize) -> bool
     if flags::marked(flags, e) {
         return false;
     }
-    let elder = slots::order_at(t, e - 1);
+    let elder = slot::order_at(t, e - 1);
     elder.figures.open == 0
 }
 
@@ -64,7 +69,7 @@ fn sound_slots(t: &[u8], n: usize) -> bool
     let mut flags = [0u8; 512];
     let mut i = 0;
     while i < n {
-        let o = slots::order_at(t, i);
+        let o = slot::order_at(t, i);
         let e = o.elder as usize;
         if !sound_slot(t, i, o) {
             return false;
@@ -86,7 +91,7 @@ pub fn is_sound(t: &[u8]) -> bool
     if most == 0 {
         return false;
     }
-    let n = slots::count(t);
+    let n = header::count(t);
     if most < n {
         return false;
     }

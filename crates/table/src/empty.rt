@@ -1,10 +1,8 @@
 // Making the empty table in a lent buffer.
 ghost use Rattle.table.specs.Promises.{Makes};
 use crate::Made;
+use crate::TABLE;
 use refusal::Refusal;
-
-// Header and 512 slots.
-const TABLE: usize = 40968;
 
 // Only the header is written: free slots keep whatever they hold.
 pub fn make_empty(t: &mut [u8]) -> Made

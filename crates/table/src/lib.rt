@@ -1,22 +1,19 @@
-// The lent table: an order at a slot, the empty table, lookup by key, the damage check.
+// The lent table: its header, the empty table, the damage check, and what a host asks of it.
 mod asked;
 pub mod damage;
 mod empty;
 mod flags;
-pub mod lookup;
-pub mod slots;
-mod stored;
+pub mod header;
 
 pub use asked::copy_order;
 pub use asked::look_up;
 pub use empty::make_empty;
 use refusal::Refusal;
 
-// The earliest order with a key.
-pub enum Place {
-    At(usize),
-    Nobody,
-}
+// The bytes of a table, and the most orders that it holds.
+pub const TABLE: usize = 40_968;
+
+pub const LIMIT: u64 = 512;
 
 // The answer of a lookup for a host.
 pub enum Found {

@@ -2,8 +2,8 @@
 use native.Mathlib.Omega.{arith}
 use borrow.Author.Needs.{needs}
 use denote.Ref.{now}
-use Rattle.table.specs.Slots.{orderIn}
-use Rattle.table.specs.Tables.{slot}
+use Rattle.slot.specs.Slots.{orderIn}
+use Rattle.slot.specs.Places.{slot}
 use Rattle.row.proofs.Lent.{figures-room, names-room, row-wrote}
 use Rattle.row.proofs.Puts.{row-length}
 use Rattle.row.proofs.write.Statement.{statement}

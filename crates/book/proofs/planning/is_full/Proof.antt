@@ -2,7 +2,7 @@
 use borrow.Author.Needs.{needs}
 use denote.Ref.{now}
 use Rattle.table.specs.Tables.{countIn}
-use Rattle.table.proofs.Laws.{length-orders}
+use Rattle.slot.proofs.Laws.{length-orders}
 use Rattle.table.proofs.Whole.{whole}
 use Rattle.book.proofs.planning.is_full.Statement.{statement}
 use Rattle.book.proofs.planning.is_full.Tie as tie

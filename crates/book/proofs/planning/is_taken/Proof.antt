@@ -4,10 +4,10 @@ use native.Mathlib.Omega.{arith}
 use borrow.Author.Tests.{not-true, not-false}
 use borrow.Author.Needs.{needs}
 use denote.Ref.{now}
-use Rattle.table.specs.Slots.{orderIn}
+use Rattle.slot.specs.Slots.{orderIn}
 use Rattle.table.specs.Tables.{tableIn}
 use Rattle.order.specs.Names.{keyOf}
-use Rattle.table.proofs.Lookups.{place-is}
+use Rattle.slot.proofs.Lookups.{place-is}
 use Rattle.book.proofs.Tested.{no-maker, maker-known, maker-unknown}
 use Rattle.table.proofs.Whole.{whole}
 use Rattle.book.proofs.planning.is_taken.Statement.{statement}

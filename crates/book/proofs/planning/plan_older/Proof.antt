@@ -4,13 +4,14 @@ use mathlib.Core.Path.{_≡_, refl, sym, _∙_}
 use native.Mathlib.Omega.{arith}
 use borrow.Author.Needs.{needs}
 use denote.Ref.{now}
-use Rattle.table.specs.Slots.{orderIn}
-use Rattle.table.specs.Tables.{tableIn, slot}
+use Rattle.slot.specs.Slots.{orderIn}
+use Rattle.slot.specs.Places.{slot}
+use Rattle.table.specs.Tables.{tableIn}
 use Rattle.day.specs.Refusals.{subject}
 use Rattle.day.specs.Machine.{place}
 use Rattle.book.proofs.Booked.{plan-is}
 use Rattle.book.proofs.Tested.{both-are}
-use Rattle.table.proofs.Lookups.{nobody-found, place-is}
+use Rattle.slot.proofs.Lookups.{nobody-found, place-is}
 use Rattle.book.proofs.There.{There, there}
 use Rattle.table.proofs.Whole.{whole}
 use Rattle.book.proofs.Planned.{unknown-key, other-series, not-open, not-executed, full, planned}

@@ -6,7 +6,7 @@ use borrow.Author.Tests.{not-true, not-false}
 use borrow.Author.Needs.{needs}
 use denote.Ref.{now}
 use lib.ListN.{length}
-use Rattle.table.specs.Tables.{slotAt}
+use Rattle.slot.specs.Places.{slotAt}
 use Rattle.table.proofs.Asking.{uncopied, no-room, no-order, copied, slot-of}
 use Rattle.table.proofs.Whole.{whole}
 use Rattle.table.proofs.asked.copy_order.Statement.{statement}

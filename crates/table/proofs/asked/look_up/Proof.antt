@@ -5,7 +5,7 @@ use borrow.Author.Tests.{not-true, not-false}
 use borrow.Author.Needs.{needs}
 use denote.Ref.{now}
 use Rattle.table.proofs.Asking.{unsearched, no-key, found-at, found-nowhere}
-use Rattle.table.proofs.Lookups.{place-is}
+use Rattle.slot.proofs.Lookups.{place-is}
 use Rattle.table.proofs.Whole.{whole}
 use Rattle.table.proofs.asked.look_up.Statement.{statement}
 use Rattle.table.proofs.asked.look_up.Tie as tie

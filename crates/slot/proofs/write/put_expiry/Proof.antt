@@ -1,0 +1,66 @@
+-- `slot::write::put_expiry` meets its contract.
+use mathlib.Core.Path.{_≡_}
+use native.Mathlib.Omega.{arith}
+use borrow.Author.Needs.{needs}
+use lib.ListN.{length}
+use Rattle.slot.proofs.Runs.{Stored, byte, number, then}
+use Rattle.slot.proofs.write.put_expiry.Statement.{statement}
+use Rattle.slot.proofs.write.put_expiry.Tie as tie
+
+slice-aggregate-run : tie.Need-slice-aggregate-run
+slice-aggregate-run c = search needs
+
+run-requires : tie.Need-run-requires
+run-requires c κs =
+    let wide : length (c .before .before .before .before .args .s .root) ≡ 6 = search needs in
+    omega arith
+
+add-put-byte : tie.Need-add-put-byte
+add-put-byte c = search needs
+
+put-byte-requires : tie.Need-put-byte-requires
+put-byte-requires c κs = search needs
+
+add-put : tie.Need-add-put
+add-put c = search needs
+
+put-requires : tie.Need-put-requires
+put-requires c κs = search needs
+
+add-put-2 : tie.Need-add-put-2
+add-put-2 c = search needs
+
+put-requires-2 : tie.Need-put-requires-2
+put-requires-2 c κs = search needs
+
+same-length : tie.Need-same-length
+same-length c = search needs
+
+returns : tie.Need-returns
+returns c =
+    let s = c .before .before .before .before .before .before .before .before .before .before .before .before .before .before .before .before .before .before .before .args .s in
+    let wide : length (s .root) ≡ 6 = search needs in
+    let fourth = c .before .before in
+    let third = fourth .before .before .before .before in
+    let second = third .before .before .before .before in
+    let first = second .before .before .before .before in
+    let root : Stored _ _ 6 (s .root) _ = record { wide = wide; stored = first .run .ensures } in
+    let month = byte (s .month) (second .put-byte .ensures) in
+    let date = number 1 (s .date) (third .put .ensures) in
+    let year = number 1 (s .year) (fourth .put2 .ensures) in
+    then (then (then root month) date) year .stored
+
+pub put-expiry-spec : {M : Type 1} → statement M
+put-expiry-spec =
+    tie.close
+    (tie.spec
+    slice-aggregate-run
+    run-requires
+    add-put-byte
+    put-byte-requires
+    add-put
+    put-requires
+    add-put-2
+    put-requires-2
+    same-length
+    returns)

@@ -1,0 +1,24 @@
+-- `stored::is_text` meets its contract.
+use mathlib.Core.Path.{sym, _∙_}
+use borrow.Author.Needs.{needs}
+use Rattle.field.proofs.Returns.{lawful-true, unlawful-false}
+use Rattle.stored.proofs.is_text.Statement.{statement}
+use Rattle.stored.proofs.is_text.Tie as tie
+
+text-requires : tie.Need-text-requires
+text-requires c κs = search needs
+
+enum-told : tie.Need-enum-told
+enum-told c = search needs
+
+enum-told-2 : tie.Need-enum-told-2
+enum-told-2 c = search needs
+
+returns : tie.Need-returns
+returns c = sym (unlawful-false _ (sym (c .before .before .text .ensures) ∙ c .enum-told2 .given .1))
+
+returns-2 : tie.Need-returns-2
+returns-2 c = sym (lawful-true _ (sym (c .before .before .text .ensures) ∙ c .enum-told .given .1))
+
+pub is-text-spec : {M : Type 1} → statement M
+is-text-spec = tie.close (tie.spec text-requires enum-told enum-told-2 returns returns-2)

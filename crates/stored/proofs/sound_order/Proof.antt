@@ -1,0 +1,33 @@
+-- `stored::sound_order` meets its contract.
+use borrow.Author.Needs.{needs}
+use Rattle.stored.proofs.sound_order.Statement.{statement}
+use Rattle.stored.proofs.sound_order.Tie as tie
+
+lawful-key-requires : tie.Need-lawful-key-requires
+lawful-key-requires c κs = search needs
+
+slice-aggregate-member : tie.Need-slice-aggregate-member
+slice-aggregate-member c = search needs
+
+member-requires : tie.Need-member-requires
+member-requires c κs = search needs
+
+lawful-series-requires : tie.Need-lawful-series-requires
+lawful-series-requires c κs = search needs
+
+sound-figures-requires : tie.Need-sound-figures-requires
+sound-figures-requires c κs = search needs
+
+returns : tie.Need-returns
+returns c = cc
+
+pub sound-order-spec : {M : Type 1} → statement M
+sound-order-spec =
+    tie.close
+    (tie.spec
+    lawful-key-requires
+    slice-aggregate-member
+    member-requires
+    lawful-series-requires
+    sound-figures-requires
+    returns)
