@@ -8,7 +8,7 @@ use crate::hand::Hand;
 use crate::line::{justify, Field, Rule, BODY, CR_LF, DENOMINATOR, FIELDS, LETTERS, LINE, STRIKE, TYPE};
 use crate::random::Random;
 use crate::record::Record;
-use crate::record_cases;
+use crate::record_cases::{self, Changes};
 use crate::table_cases;
 use crate::text_cases;
 use crate::trial::LONGEST;
@@ -347,12 +347,12 @@ fn bad_cases(line: &[u8], out: &mut impl Write) -> Written {
 /// before it is written, or the line before its record is read.
 fn random_cases(count: u64, random: &mut Random, out: &mut impl Write) -> Written {
     let known: Vec<_> = FIELDS.iter().map(contents).collect();
-    let stored_known: Vec<_> = FIELDS.iter().map(record_cases::stored_contents).collect();
+    let changes = Changes::all();
     for case in 0..count {
         let mut line = lawful_line(*random.pick(LETTERS), random);
         let as_record = case % 4 == 0;
         if as_record {
-            record_cases::random_write(&line, &stored_known, random, out)?;
+            record_cases::random_write(&line, &changes, random, out)?;
         }
         for _ in 0..random.below(4) {
             mutate(&mut line, &known, random);

@@ -188,6 +188,8 @@ pub fn records() -> Vec<Vector> {
     let untouched = format!("write 139 refused 4 [{}]", ".".repeat(139));
     let longer = [EXECUTED_STORED.as_slice(), b"\0"].concat();
     let bad_timestamp: (usize, &[u8]) = (0, &[0xFF; 8]);
+    let bad_date: (usize, &[u8]) = (99, &[0]);
+    let ten_digits: &[u8] = &[0x00, 0xCA, 0x9A, 0x3B];
     vec![
         says("A record of 138 bytes", b'i', room_payload(138, &line), read(138, b"")),
         says("Only its bytes change", b'i', room_payload(140, &line), read(140, b"..")),
@@ -206,6 +208,7 @@ pub fn records() -> Vec<Vector> {
         unwritten("A record of 137 bytes is 3, field 24", EXECUTED_STORED[..137].to_vec(), 24),
         unwritten("A record of 139 bytes is 3, field 24", longer, 24),
         unwritten("A length comes before a type", stored(&[(8, b"B")])[..137].to_vec(), 24),
+        unwritten("and before a broken rule", stored(&[bad_timestamp])[..137].to_vec(), 24),
         unwritten("A type B is 3, field 2", stored(&[(8, b"B")]), 2),
         unwritten("Liquidity in the record of an A is 3, field 6", accepted(&[(15, b"A")]), 6),
         unwritten("A last byte but one of the price", stored(&[(118, &[1])]), 22),
@@ -216,9 +219,23 @@ pub fn records() -> Vec<Vector> {
         unwritten("A Cross Id in the record of an A is 3, field 24", accepted(&[(136, &[1])]), 24),
         unwritten("A type comes before liquidity", accepted(&[(8, b"a"), (15, b"A"), (119, &[1])]), 2),
         unwritten("Liquidity comes before a price", accepted(&[(15, b"A"), (119, &[1])]), 6),
-        unwritten("A byte without meaning comes before a rule", stored(&[bad_timestamp, (137, &[1])]), 24),
-        unwritten("The first broken rule is named", stored(&[bad_timestamp, (15, b" "), (99, &[0])]), 1),
-        unwritten("Liquidity on an E has a meaning and breaks its rule", stored(&[(15, b" "), (99, &[0])]), 6),
+        unwritten("The first broken rule is named", stored(&[bad_timestamp, (15, b" "), bad_date]), 1),
+        unwritten("Liquidity on an E has a meaning and breaks its rule", stored(&[(15, b" "), bad_date]), 6),
+        unwritten("A broken rule comes before a later byte without meaning", stored(&[bad_timestamp, (137, &[1])]), 1),
+        unwritten("also before a type without meaning", stored(&[bad_timestamp, (8, b"B")]), 1),
+        unwritten("and before liquidity without meaning", accepted(&[(13, b"X"), (15, b"A")]), 4),
+        unwritten("A strike of 0 before a last byte of the price", stored(&[(104, &[0; 6]), (119, &[1])]), 21),
+        unwritten("A Match Id of ten digits before a last byte of the Cross Id",
+            stored(&[(120, ten_digits), (137, &[1])]), 23),
+        unwritten("A type without meaning comes before a later broken rule", stored(&[(8, b"B"), (9, b" ")]), 2),
+        unwritten("and liquidity without meaning", accepted(&[(15, b"A"), bad_date]), 6),
+        unwritten("A last byte of the price before a Cross Id of ten digits",
+            stored(&[(119, &[1]), (129, ten_digits)]), 22),
+        unwritten("A Match Id in the record of an A before a last byte of the Cross Id",
+            accepted(&[(120, &[1]), (137, &[1])]), 23),
+        unwritten("A price that is both", stored(&[(110, &[0xFF; 10])]), 22),
+        unwritten("A Match Id that is both", stored(&[(120, ten_digits), (128, &[1])]), 23),
+        unwritten("A Cross Id that is both", stored(&[(129, &[0xFF; 9])]), 24),
         unwritten("Contracts of 2 to the 48 less 1", stored(&[(86, &[0xFF; 6])]), 15),
         unwritten("A Date of 65,535", stored(&[(99, &[0xFF; 2])]), 18),
         unwritten("A Date of 256 + 27", stored(&[(100, &[1])]), 18),
