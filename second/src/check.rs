@@ -87,6 +87,11 @@ fn more() -> Vec<Vector> {
         says("Writing changes only the first 140 bytes", b'w', room_payload(300, record.stored()), &whole_line),
         says("A name with LF is a bad case", b'n', b"a\nb".to_vec(), "bad case"),
         says("A kind that is not listed is a bad case", b'?', vec![], "bad case"),
+        says("A timestamp of 2 to the 64 less 1 leaves four numbers", b'k', vec![0xFF; 8],
+            "clock refused 3 field 1 left 7 8 9 10"),
+        says("A value of 2 to the 64 less 1 leaves two numbers", b'f', vec![0xFF; 8], "form refused 3 field 21 left 7 8"),
+        says("A strike of 2 to the 64 less 1 leaves one number", b's', [&b"E"[..], &[0xFF; 8]].concat(),
+            "strike refused 3 field 21 left 7"),
         says("A strike without its number is a bad case", b's', b"A".to_vec(), "bad case"),
     ]
 }
