@@ -12,6 +12,7 @@ use crate::refusal::Refusal;
 use crate::shorthand::{executed, untraded, EXECUTED, NO_TOKEN};
 use crate::strike;
 use crate::tables;
+use crate::text_cases::{self, piece_payload};
 use crate::trial::{self, Trial};
 use crate::vectors::{self, reads, refused_field, says, unwritten, Vector};
 
@@ -99,7 +100,7 @@ fn more() -> Vec<Vector> {
 /// A law that runs over many values.
 pub type Law = (&'static str, fn() -> bool);
 
-fn laws() -> [Law; 13] {
+fn laws() -> [Law; 14] {
     [
         ("The fields lie one behind another over 138 bytes", fields_lie_in_a_row),
         ("Each code is one of its list, each hex digit one of 0-9 A-F", codes_are_of_their_lists),
@@ -112,6 +113,7 @@ fn laws() -> [Law; 13] {
         ("Of a broken rule and a byte without meaning the first is named", first_flaws_are_named),
         ("What is written reads as the same record", written_records_come_back),
         ("A record of another length is 3, field 24", other_records_are_refused),
+        ("A reader gives a piece for each LF and one for a rest", readers_give_all_pieces),
         ("Input that ends inside a case ends the run", cut_input_ends_the_run),
         ("A payload of 65,537 bytes ends the run", a_long_case_ends_the_run),
     ]
@@ -292,6 +294,42 @@ fn other_records_are_refused() -> bool {
         names(&stored[..length], 24)
             && names(&vec![0xFF; length], 24)
             && line::write(&stored[..length], &mut [0; LINE - 1]) == Err(Refusal::Buffer)
+    })
+}
+
+/// What the trial says to one case.
+fn answer(kind: u8, payload: &[u8]) -> String {
+    let mut said = Vec::new();
+    Trial::default().answer(kind, payload, &mut said);
+    String::from_utf8_lossy(&said).into_owned()
+}
+
+/// How many pieces follow one another, each asked for at the end of the one before. None is empty.
+fn pieces_in_turn(text: &[u8]) -> Option<usize> {
+    let mut place: u64 = 0;
+    for count in 0..=text.len() {
+        let said = answer(b'x', &piece_payload(place, text));
+        if said == "piece none\n" {
+            return (place == text.len() as u64).then_some(count);
+        }
+        let (start, end) = said.strip_prefix("piece ")?.trim_end().split_once(' ')?;
+        if start != place.to_string() {
+            return None;
+        }
+        place = end.parse().ok()?;
+    }
+    None
+}
+
+fn readers_give_all_pieces() -> bool {
+    let mut random = Random::new(5);
+    (0..200).all(|_| {
+        let mut text = text_cases::random_text(&mut random);
+        text.truncate(2_000);
+        let ends = text.iter().filter(|byte| **byte == b'\n').count();
+        let rest = usize::from(text.last().is_some_and(|byte| *byte != b'\n'));
+        let count = ends + rest;
+        answer(b'y', &text) == format!("pieces {count}\n") && pieces_in_turn(&text) == Some(count)
     })
 }
 

@@ -1,4 +1,4 @@
-//! Cases about texts: the next piece, and the steps of the sheet program.
+//! Cases about texts: the next piece, all pieces, and the steps of the sheet program.
 
 use std::io::{self, Write};
 
@@ -12,6 +12,8 @@ use crate::trial::LONGEST;
 
 /// What a step may write.
 const ROOMS: [u32; 4] = [64, 65, 100, 60_000];
+/// How many random texts are cut into pieces.
+const RANDOM_TEXTS: usize = 24;
 /// How many random captures there are for each room and each list of sizes, and the pieces of each.
 const CAPTURES: usize = 2;
 const PIECES: usize = 40;
@@ -24,6 +26,8 @@ type Written = io::Result<()>;
 pub fn write(random: &mut Random, out: &mut impl Write) -> Written {
     put(out, b'n', b"next pieces")?;
     next_pieces(random, out)?;
+    put(out, b'n', b"all pieces")?;
+    all_pieces(random, out)?;
     put(out, b'n', b"captures by name")?;
     named_captures(random, out)?;
     put(out, b'n', b"random captures")?;
@@ -44,18 +48,23 @@ pub fn capture_payload(room: u32, sizes: &[u16], text: &[u8]) -> Vec<u8> {
 
 // The next piece.
 
+/// Texts with and without LF, inside them and at their ends.
+fn short_texts(random: &mut Random) -> Vec<Vec<u8>> {
+    let two = [piece("A T1 5"), piece("E T1 1")].concat();
+    let unfinished = two[..two.len() - 1].to_vec();
+    let noise = (0..80).map(|_| *random.pick(b"\nA\r\0\x0B\xFF")).collect();
+    let short: [&[u8]; 9] =
+        [b"", b"\n", b"A", b"\n\n\n", CR_LF, b"A\nB", b"A\n\nB\n", b"\r\n\r\n\r", b"\n\r\0\xFF\x0B\x85"];
+    short.into_iter().map(<[u8]>::to_vec).chain([noise, two, unfinished]).collect()
+}
+
 /// From every place of short texts, and far past their end; and from some places of a long one.
 fn next_pieces(random: &mut Random, out: &mut impl Write) -> Written {
-    let two = [piece("A T1 5"), piece("E T1 1")].concat();
-    let unfinished = &two[..two.len() - 1];
-    let noise: Vec<_> = (0..80).map(|_| *random.pick(b"\nA\r\0\x0B\xFF")).collect();
-    let short: [&[u8]; 10] =
-        [b"", b"\n", b"A", b"\n\n\n", CR_LF, b"A\nB", b"A\n\nB\n", b"\r\n\r\n\r", b"\n\r\0\xFF\x0B\x85", &noise];
-    for text in short.into_iter().chain([&two[..], unfinished]) {
+    for text in short_texts(random) {
         let end = text.len() as u64;
         let places = (0..=end + 2).chain([1 << 16, 1 << 32, (1 << 32) + 1, 1 << 63, u64::MAX - 1, u64::MAX]);
         for place in places {
-            put(out, b'x', &piece_payload(place, text))?;
+            put(out, b'x', &piece_payload(place, &text))?;
         }
     }
     let mut long = vec![b'A'; LONGEST - 8];
@@ -65,6 +74,35 @@ fn next_pieces(random: &mut Random, out: &mut impl Write) -> Written {
         put(out, b'x', &piece_payload(place, &long))?;
     }
     Ok(())
+}
+
+// All pieces.
+
+/// Of short texts; of the longest with no LF, with nothing else, with LF at the end alone or before it;
+/// and of random ones.
+fn all_pieces(random: &mut Random, out: &mut impl Write) -> Written {
+    for text in short_texts(random) {
+        put(out, b'y', &text)?;
+    }
+    let mut long = vec![b'A'; LONGEST];
+    for text in [&long, &vec![b'\n'; LONGEST], &CR_LF.repeat(LONGEST / CR_LF.len())] {
+        put(out, b'y', text)?;
+    }
+    for at in [LONGEST - 1, LONGEST - 2, 0] {
+        long[at] = b'\n';
+        put(out, b'y', &long)?;
+    }
+    for _ in 0..RANDOM_TEXTS {
+        put(out, b'y', &random_text(random))?;
+    }
+    Ok(())
+}
+
+/// Any bytes, LF being frequent or rare among them.
+pub fn random_text(random: &mut Random) -> Vec<u8> {
+    let length = random.between(0, LONGEST as u64);
+    let apart = *random.pick(&[1, 2, 10, 140, 1_000, 20_000]);
+    (0..length).map(|_| if random.once_in(apart) { b'\n' } else { random.next() as u8 }).collect()
 }
 
 // The sheet program's steps.
@@ -112,6 +150,7 @@ fn named_captures(random: &mut Random, out: &mut impl Write) -> Written {
     ];
     let lists = lists_of_sizes(random);
     for (number, text) in texts.iter().enumerate() {
+        put(out, b'y', text)?;
         for turn in 0..4 {
             let room = ROOMS[turn];
             let sizes = &lists[(number + 3 * turn) % lists.len()];

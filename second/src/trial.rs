@@ -88,6 +88,7 @@ impl Trial {
             b'b' => self.book(payload, out),
             b'h' => self.sheet(payload, out),
             b'x' => next_piece(payload, out),
+            b'y' => pieces(payload, out),
             b'c' => fed(payload, out),
             _ => None,
         };
@@ -314,6 +315,13 @@ fn next_piece(payload: &[u8], out: &mut Vec<u8>) -> Option<()> {
         Some(piece) => say(out, &format!("piece {start} {}\n", start + piece.len())),
         None => say(out, "piece none\n"),
     }
+    Some(())
+}
+
+/// How many pieces there are until nothing is left.
+fn pieces(text: &[u8], out: &mut Vec<u8>) -> Option<()> {
+    let count = text.split_inclusive(|byte| *byte == LF).count();
+    say(out, &format!("pieces {count}\n"));
     Some(())
 }
 
