@@ -13,27 +13,34 @@ use crate::trial::LONGEST;
 /// What a step may write.
 const ROOMS: [u32; 4] = [64, 65, 100, 60_000];
 /// How many random texts are cut into pieces.
-const RANDOM_TEXTS: usize = 24;
-/// How many random captures there are for each room and each list of sizes, and the pieces of each.
-const CAPTURES: usize = 2;
+const RANDOM_TEXTS: usize = 12;
+/// The pieces of a random capture.
 const PIECES: usize = 40;
 /// The longest piece of a random capture, or little less.
 const LONGEST_PIECE: usize = 1_500;
 
 type Written = io::Result<()>;
 
-/// Writes all of them.
-pub fn write(random: &mut Random, out: &mut impl Write) -> Written {
+/// Writes those that are no random ones.
+pub fn bounds(random: &mut Random, out: &mut impl Write) -> Written {
     put(out, b'n', b"next pieces")?;
     next_pieces(random, out)?;
     put(out, b'n', b"all pieces")?;
     all_pieces(random, out)?;
     put(out, b'n', b"captures by name")?;
     named_captures(random, out)?;
-    put(out, b'n', b"random captures")?;
-    random_captures(random, out)?;
     put(out, b'n', b"bad cases of texts")?;
     bad_cases(out)
+}
+
+/// Writes the random ones.
+pub fn by_chance(random: &mut Random, out: &mut impl Write) -> Written {
+    put(out, b'n', b"pieces of random texts")?;
+    for _ in 0..RANDOM_TEXTS {
+        put(out, b'y', &random_text(random))?;
+    }
+    put(out, b'n', b"random captures")?;
+    random_captures(random, out)
 }
 
 pub fn piece_payload(place: u64, text: &[u8]) -> Vec<u8> {
@@ -78,8 +85,7 @@ fn next_pieces(random: &mut Random, out: &mut impl Write) -> Written {
 
 // All pieces.
 
-/// Of short texts; of the longest with no LF, with nothing else, with LF at the end alone or before it;
-/// and of random ones.
+/// Of short texts, and of the longest: with no LF, with nothing else, after each CR, and at the ends.
 fn all_pieces(random: &mut Random, out: &mut impl Write) -> Written {
     for text in short_texts(random) {
         put(out, b'y', &text)?;
@@ -91,9 +97,6 @@ fn all_pieces(random: &mut Random, out: &mut impl Write) -> Written {
     for at in [LONGEST - 1, LONGEST - 2, 0] {
         long[at] = b'\n';
         put(out, b'y', &long)?;
-    }
-    for _ in 0..RANDOM_TEXTS {
-        put(out, b'y', &random_text(random))?;
     }
     Ok(())
 }
@@ -162,12 +165,11 @@ fn named_captures(random: &mut Random, out: &mut impl Write) -> Written {
     put(out, b'c', &capture_payload(60_000, &vec![3; 500], &many))
 }
 
+/// One for each room and each list of sizes.
 fn random_captures(random: &mut Random, out: &mut impl Write) -> Written {
-    for _ in 0..CAPTURES {
-        for sizes in lists_of_sizes(random) {
-            for room in ROOMS {
-                put(out, b'c', &capture_payload(room, &sizes, &random_capture(random)))?;
-            }
+    for sizes in lists_of_sizes(random) {
+        for room in ROOMS {
+            put(out, b'c', &capture_payload(room, &sizes, &random_capture(random)))?;
         }
     }
     Ok(())
