@@ -100,7 +100,7 @@ fn more() -> Vec<Vector> {
 /// A law that runs over many values.
 pub type Law = (&'static str, fn() -> bool);
 
-fn laws() -> [Law; 14] {
+fn laws() -> [Law; 15] {
     [
         ("The fields lie one behind another over 138 bytes", fields_lie_in_a_row),
         ("Each code is one of its list, each hex digit one of 0-9 A-F", codes_are_of_their_lists),
@@ -114,6 +114,7 @@ fn laws() -> [Law; 14] {
         ("What is written reads as the same record", written_records_come_back),
         ("A record of another length is 3, field 24", other_records_are_refused),
         ("A reader gives a piece for each LF and one for a rest", readers_give_all_pieces),
+        ("The pieces by number, one behind another, are the text", numbers_give_all_pieces),
         ("Input that ends inside a case ends the run", cut_input_ends_the_run),
         ("A payload of 65,537 bytes ends the run", a_long_case_ends_the_run),
     ]
@@ -298,17 +299,17 @@ fn other_records_are_refused() -> bool {
 }
 
 /// What the trial says to one case.
-fn answer(kind: u8, payload: &[u8]) -> String {
+fn answer(kind: u8, payload: &[u8]) -> Vec<u8> {
     let mut said = Vec::new();
     Trial::default().answer(kind, payload, &mut said);
-    String::from_utf8_lossy(&said).into_owned()
+    said
 }
 
 /// How many pieces follow one another, each asked for at the end of the one before. None is empty.
-fn pieces_in_turn(text: &[u8]) -> Option<usize> {
+fn pieces_in_turn(text: &[u8]) -> Option<u64> {
     let mut place: u64 = 0;
-    for count in 0..=text.len() {
-        let said = answer(b'x', &piece_payload(place, text));
+    for count in 0..=text.len() as u64 {
+        let said = String::from_utf8(answer(b'x', &piece_payload(place, text))).ok()?;
         if said == "piece none\n" {
             return (place == text.len() as u64).then_some(count);
         }
@@ -326,10 +327,31 @@ fn readers_give_all_pieces() -> bool {
     (0..200).all(|_| {
         let mut text = text_cases::random_text(&mut random);
         text.truncate(2_000);
-        let ends = text.iter().filter(|byte| **byte == b'\n').count();
-        let rest = usize::from(text.last().is_some_and(|byte| *byte != b'\n'));
-        let count = ends + rest;
-        answer(b'y', &text) == format!("pieces {count}\n") && pieces_in_turn(&text) == Some(count)
+        let count = text_cases::pieces(&text);
+        answer(b'y', &text) == format!("pieces {count}\n").as_bytes() && pieces_in_turn(&text) == Some(count)
+    })
+}
+
+/// Whether a reader gives this piece as the one with the number.
+fn gives(number: u64, text: &[u8], piece: &[u8]) -> bool {
+    answer(b'z', &piece_payload(number, text)) == [b"given [", piece, b"]\n"].concat()
+}
+
+fn numbers_give_all_pieces() -> bool {
+    let mut random = Random::new(6);
+    (0..200).all(|_| {
+        let mut text = text_cases::random_text(&mut random);
+        text.truncate(500);
+        let (mut number, mut rest) = (0, text.as_slice());
+        while !rest.is_empty() {
+            let end = rest.iter().position(|byte| *byte == b'\n').map_or(rest.len(), |at| at + 1);
+            if !gives(number, &text, &rest[..end]) {
+                return false;
+            }
+            number += 1;
+            rest = &rest[end..];
+        }
+        [number, number + 1, u64::MAX].into_iter().all(|past| gives(past, &text, b""))
     })
 }
 

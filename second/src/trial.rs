@@ -89,6 +89,7 @@ impl Trial {
             b'h' => self.sheet(payload, out),
             b'x' => next_piece(payload, out),
             b'y' => pieces(payload, out),
+            b'z' => given(payload, out),
             b'c' => fed(payload, out),
             _ => None,
         };
@@ -322,6 +323,15 @@ fn next_piece(payload: &[u8], out: &mut Vec<u8>) -> Option<()> {
 fn pieces(text: &[u8], out: &mut Vec<u8>) -> Option<()> {
     let count = text.split_inclusive(|byte| *byte == LF).count();
     say(out, &format!("pieces {count}\n"));
+    Some(())
+}
+
+/// The piece with a number, counted from 0. No byte says that there is none: no piece is empty.
+fn given(payload: &[u8], out: &mut Vec<u8>) -> Option<()> {
+    let (number, text) = payload.split_first_chunk()?;
+    let number = usize::try_from(u64::from_le_bytes(*number)).unwrap_or(usize::MAX);
+    let piece = text.split_inclusive(|byte| *byte == LF).nth(number).unwrap_or_default();
+    say_buffer(out, "given", piece);
     Some(())
 }
 

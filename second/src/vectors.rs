@@ -341,12 +341,68 @@ pub fn tables() -> Vec<Vector> {
     all
 }
 
+/// What a reader gives as the piece with a number, counted from 0.
+fn gives(name: &'static str, number: u64, text: &[u8], piece: &[u8]) -> Vector {
+    says(name, b'z', piece_payload(number, text), [b"given [", piece, b"]"].concat())
+}
+
+#[rustfmt::skip]
+fn pieces_by_number() -> Vec<Vector> {
+    let whole = capture(WHOLE_CASE);
+    let many = [&[b'\n'; 256][..], b"A"].concat();
+    vec![
+        gives("The first piece has the number 0", 0, b"AB\nC\nDEF", b"AB\n"),
+        gives("The piece in the middle", 1, b"AB\nC\nDEF", b"C\n"),
+        gives("The last piece", 2, b"AB\nC\nDEF", b"DEF"),
+        gives("One past the last there is no piece", 3, b"AB\nC\nDEF", b""),
+        gives("nor two past it", 4, b"AB\nC\nDEF", b""),
+        gives("nor at 2 to the 32", 1 << 32, b"AB\nC\nDEF", b""),
+        gives("nor at 2 to the 32 and 1", (1 << 32) + 1, b"AB\nC\nDEF", b""),
+        gives("nor at 2 to the 63", 1 << 63, b"AB\nC\nDEF", b""),
+        gives("nor at 2 to the 64 less 1", u64::MAX, b"AB\nC\nDEF", b""),
+        gives("256 LF and a byte, the last LF", 255, &many, b"\n"),
+        gives("256 LF and a byte, the byte", 256, &many, b"A"),
+        gives("256 LF and a byte, one past it", 257, &many, b""),
+        gives("No text has no piece", 0, b"", b""),
+        gives("nor far past", u64::MAX, b"", b""),
+        gives("A text without LF is its only piece", 0, b"AB", b"AB"),
+        gives("A text without LF has no other", 1, b"AB", b""),
+        gives("LF alone is a piece", 0, b"\n", b"\n"),
+        gives("LF alone has no other", 1, b"\n", b""),
+        gives("Three LF in a row, the first", 0, b"\n\n\n", b"\n"),
+        gives("Three LF in a row, the last", 2, b"\n\n\n", b"\n"),
+        gives("Three LF in a row, one past the last", 3, b"\n\n\n", b""),
+        gives("LF in a row inside a text, before them", 0, b"A\n\n\nB", b"A\n"),
+        gives("LF in a row inside a text, one of them", 2, b"A\n\n\nB", b"\n"),
+        gives("LF in a row inside a text, behind them", 3, b"A\n\n\nB", b"B"),
+        gives("CR LF is one piece", 0, b"\r\n", b"\r\n"),
+        gives("CR LF has no other", 1, b"\r\n", b""),
+        gives("A line that ends in CR LF", 1, b"A\r\nB\r\nC", b"B\r\n"),
+        gives("CR alone ends no piece", 0, b"A\rB", b"A\rB"),
+        gives("CR behind LF begins the next", 1, b"A\n\rB", b"\rB"),
+        gives("The last piece of a text that ends with LF", 1, b"A\nB\n", b"B\n"),
+        gives("One past the last of a text that ends with LF", 2, b"A\nB\n", b""),
+        gives("The last piece of a text that ends without LF", 1, b"A\nB", b"B"),
+        gives("One past the last of a text that ends without LF", 2, b"A\nB", b""),
+        gives("A piece of any bytes", 1, b"\x0B\x85\n\0]\xFF[\n\n", b"\0]\xFF[\n"),
+        gives("The first line of the whole case", 0, &whole, &piece("A T1 100")),
+        gives("A line of the whole case", 3, &whole, &piece("A T9 5")),
+        gives("The end of day of the whole case", 7, &whole, b"\r\n"),
+        gives("The end of day of the whole case but its last byte", 7, &whole[..whole.len() - 1], b"\r"),
+        gives("One past the end of day of the whole case", 8, &whole, b""),
+        says("A piece's number of no byte is a bad case", b'z', vec![], "bad case"),
+        says("A piece's number of one byte is a bad case", b'z', vec![0], "bad case"),
+        says("A piece's number of seven bytes is a bad case", b'z', b"\0\0\0\0\0\0\n".to_vec(), "bad case"),
+        says("A piece's number of eight bytes has no text", b'z', b"\0\0\0\0\0\0\0\n".to_vec(), "given []"),
+    ]
+}
+
 /// Pieces of texts, and the sheet program's steps.
 #[rustfmt::skip]
 pub fn texts() -> Vec<Vector> {
     let whole = capture(WHOLE_CASE);
     let printed = format!("fed [line 7 refused 7\n{WHOLE_SHEET}]");
-    vec![
+    let mut all = vec![
         says("A piece runs up to and including the next LF", b'x', piece_payload(0, b"A\nB"), "piece 0 2"),
         says("or to the end of the text", b'x', piece_payload(2, b"A\nB"), "piece 2 3"),
         says("from any place", b'x', piece_payload(1, b"A\nB"), "piece 1 2"),
@@ -377,7 +433,9 @@ pub fn texts() -> Vec<Vector> {
         says("No size is a bad case", b'c', capture_payload(64, &[], &whole), "bad case"),
         says("A size of 0 is a bad case", b'c', capture_payload(64, &[1, 0], &whole), "bad case"),
         says("A room of 63 is a bad case", b'c', capture_payload(63, &[1], &whole), "bad case"),
-    ]
+    ];
+    all.extend(pieces_by_number());
+    all
 }
 
 /// Writes their cases.
