@@ -8,7 +8,7 @@ use crate::hand::Hand;
 use crate::line::{justify, Field, Rule, BODY, CR_LF, DENOMINATOR, FIELDS, LETTERS, LINE, STRIKE, TYPE};
 use crate::random::Random;
 use crate::record::Record;
-use crate::record_cases;
+use crate::record_cases::{self, Changes};
 use crate::table_cases;
 use crate::text_cases;
 use crate::trial::LONGEST;
@@ -20,8 +20,6 @@ const SPOILING: &[u8] = b" 0/:+-.Aa~";
 pub const EDGES: &[u8] = b"\x00\x09\x0A\x0D\x1F\x20\x21\x7E\x7F\x80\xFF";
 /// What a unit of the strike is worth under each code.
 const UNITS: [u64; 5] = [10_000, 1_000, 100, 10, 1];
-/// The number of random cases for the strike and the clock.
-const RANDOM_NUMBERS: usize = 1_000;
 
 type Written = io::Result<()>;
 
@@ -53,9 +51,20 @@ fn field(number: usize) -> &'static Field {
     &FIELDS[number - 1]
 }
 
-/// Writes the whole set. The names between the parts help to find a difference.
+/// Writes the whole set: both sides of every bound, and random cases.
 pub fn write(seed: u64, count: u64, out: &mut impl Write) -> Written {
     let random = &mut Random::new(seed);
+    bounds(random, out)?;
+    by_chance(count, random, out)
+}
+
+/// Writes the random cases alone.
+pub fn write_random(seed: u64, count: u64, out: &mut impl Write) -> Written {
+    by_chance(count, &mut Random::new(seed), out)
+}
+
+/// The names between the parts help to find a difference.
+fn bounds(random: &mut Random, out: &mut impl Write) -> Written {
     for letter in LETTERS {
         let line = lawful_line(*letter, random);
         put(out, b'n', &[b"lines of ".as_slice(), &[*letter]].concat())?;
@@ -72,13 +81,21 @@ pub fn write(seed: u64, count: u64, out: &mut impl Write) -> Written {
     put(out, b'n', b"lengths and ends")?;
     lengths(&lawful_line(b'E', random), out)?;
     put(out, b'n', b"strikes and clocks")?;
-    strikes_and_clocks(random, out)?;
+    strikes_and_clocks(out)?;
     put(out, b'n', b"bad cases")?;
     bad_cases(&lawful_line(b'E', random), out)?;
+    table_cases::bounds(random, &mut Hand::new(out))?;
+    text_cases::bounds(random, out)
+}
+
+/// As many lines as the count says, and other cases to go with them.
+fn by_chance(count: u64, random: &mut Random, out: &mut impl Write) -> Written {
     put(out, b'n', b"random lines and records")?;
     random_cases(count, random, out)?;
-    table_cases::write(count, random, &mut Hand::new(out))?;
-    text_cases::write(random, out)
+    put(out, b'n', b"random strikes and clocks")?;
+    random_numbers(count / 20, random, out)?;
+    table_cases::by_chance(count, random, &mut Hand::new(out))?;
+    text_cases::by_chance(random, out)
 }
 
 // Lawful lines.
@@ -288,7 +305,7 @@ fn lengths(line: &[u8], out: &mut impl Write) -> Written {
 
 // Strikes, clocks and what is no case.
 
-fn strikes_and_clocks(random: &mut Random, out: &mut impl Write) -> Written {
+fn strikes_and_clocks(out: &mut impl Write) -> Written {
     let digits = [numbers_around(field(STRIKE)), vec![99_999, 100_000, 100_001]].concat();
     let seconds = [1, 60, 3_600, 36_000, 43_200, 86_399, 86_400, 100_000].map(|second: u64| second * 1_000);
     for code in 0..=255 {
@@ -311,21 +328,12 @@ fn strikes_and_clocks(random: &mut Random, out: &mut impl Write) -> Written {
         put(out, b'f', &number.to_le_bytes())?;
         put(out, b'k', &number.to_le_bytes())?;
     }
-    for _ in 0..RANDOM_NUMBERS {
-        let number = random.between(0, 1_100_000);
-        put(out, b's', &strike_payload(*random.pick(b"ABCDE"), number))?;
-        put(out, b's', &strike_payload(*random.pick(b"ABCDE"), random.any()))?;
-        put(out, b'f', &(number * random.pick(&UNITS)).to_le_bytes())?;
-        put(out, b'f', &random.any().to_le_bytes())?;
-        put(out, b'k', &random.between(0, 90_000_000).to_le_bytes())?;
-        put(out, b'k', &random.any().to_le_bytes())?;
-    }
     Ok(())
 }
 
 /// Kinds and payloads that are no case. None of them ends the run.
 fn bad_cases(line: &[u8], out: &mut impl Write) -> Written {
-    for kind in *b"nriwsfktpedlobhxc?Z\0\xFF" {
+    for kind in *b"nriwsfktpedlobhxyzc?Z\0\xFF" {
         for length in [0, 1, 2, 7, 8, 9, 10, 138, 139, 140, 141, 4_096] {
             put(out, kind, &vec![0; length])?;
         }
@@ -347,12 +355,12 @@ fn bad_cases(line: &[u8], out: &mut impl Write) -> Written {
 /// before it is written, or the line before its record is read.
 fn random_cases(count: u64, random: &mut Random, out: &mut impl Write) -> Written {
     let known: Vec<_> = FIELDS.iter().map(contents).collect();
-    let stored_known: Vec<_> = FIELDS.iter().map(record_cases::stored_contents).collect();
+    let changes = Changes::all();
     for case in 0..count {
         let mut line = lawful_line(*random.pick(LETTERS), random);
         let as_record = case % 4 == 0;
         if as_record {
-            record_cases::random_write(&line, &stored_known, random, out)?;
+            record_cases::random_write(&line, &changes, random, out)?;
         }
         for _ in 0..random.below(4) {
             mutate(&mut line, &known, random);
@@ -361,6 +369,19 @@ fn random_cases(count: u64, random: &mut Random, out: &mut impl Write) -> Writte
         if as_record {
             record_cases::random_read(&line, random, out)?;
         }
+    }
+    Ok(())
+}
+
+fn random_numbers(count: u64, random: &mut Random, out: &mut impl Write) -> Written {
+    for _ in 0..count {
+        let number = random.between(0, 1_100_000);
+        put(out, b's', &strike_payload(*random.pick(b"ABCDE"), number))?;
+        put(out, b's', &strike_payload(*random.pick(b"ABCDE"), random.any()))?;
+        put(out, b'f', &(number * random.pick(&UNITS)).to_le_bytes())?;
+        put(out, b'f', &random.any().to_le_bytes())?;
+        put(out, b'k', &random.between(0, 90_000_000).to_le_bytes())?;
+        put(out, b'k', &random.any().to_le_bytes())?;
     }
     Ok(())
 }

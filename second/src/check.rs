@@ -12,6 +12,7 @@ use crate::refusal::Refusal;
 use crate::shorthand::{executed, untraded, EXECUTED, NO_TOKEN};
 use crate::strike;
 use crate::tables;
+use crate::text_cases::{self, piece_payload};
 use crate::trial::{self, Trial};
 use crate::vectors::{self, reads, refused_field, says, unwritten, Vector};
 
@@ -87,6 +88,11 @@ fn more() -> Vec<Vector> {
         says("Writing changes only the first 140 bytes", b'w', room_payload(300, record.stored()), &whole_line),
         says("A name with LF is a bad case", b'n', b"a\nb".to_vec(), "bad case"),
         says("A kind that is not listed is a bad case", b'?', vec![], "bad case"),
+        says("A timestamp of 2 to the 64 less 1 leaves four numbers", b'k', vec![0xFF; 8],
+            "clock refused 3 field 1 left 7 8 9 10"),
+        says("A value of 2 to the 64 less 1 leaves two numbers", b'f', vec![0xFF; 8], "form refused 3 field 21 left 7 8"),
+        says("A strike of 2 to the 64 less 1 leaves one number", b's', [&b"E"[..], &[0xFF; 8]].concat(),
+            "strike refused 3 field 21 left 7"),
         says("A strike without its number is a bad case", b's', b"A".to_vec(), "bad case"),
     ]
 }
@@ -94,7 +100,7 @@ fn more() -> Vec<Vector> {
 /// A law that runs over many values.
 pub type Law = (&'static str, fn() -> bool);
 
-fn laws() -> [Law; 11] {
+fn laws() -> [Law; 15] {
     [
         ("The fields lie one behind another over 138 bytes", fields_lie_in_a_row),
         ("Each code is one of its list, each hex digit one of 0-9 A-F", codes_are_of_their_lists),
@@ -103,8 +109,12 @@ fn laws() -> [Law; 11] {
         ("Each strike value has one form", strikes_have_one_form),
         ("A thousand random lawful lines of each type come back", lawful_lines_come_back),
         ("A record's bytes and numbers are those of its line", records_say_their_lines),
-        ("Bytes without meaning, and no others, come before the rules", meanings_come_first),
+        ("A byte without meaning is named by its field, but a bad timestamp comes first", meaningless_bytes_are_named),
+        ("Of a broken rule and a byte without meaning the first is named", first_flaws_are_named),
+        ("What is written reads as the same record", written_records_come_back),
         ("A record of another length is 3, field 24", other_records_are_refused),
+        ("A reader gives a piece for each LF and one for a rest", readers_give_all_pieces),
+        ("The pieces by number, one behind another, are the text", numbers_give_all_pieces),
         ("Input that ends inside a case ends the run", cut_input_ends_the_run),
         ("A payload of 65,537 bytes ends the run", a_long_case_ends_the_run),
     ]
@@ -205,18 +215,75 @@ fn meaningless(record: &[u8; STORED]) -> Option<usize> {
     listed.into_iter().find(|(_, without)| *without).map(|(field, _)| field)
 }
 
-/// Every byte at every place of records that break the first of all rules.
-fn meanings_come_first() -> bool {
+/// Whether writing these bytes names a field.
+fn names(stored: &[u8], field: usize) -> bool {
+    line::write(stored, &mut [0; LINE]) == Err(Refusal::Field(field))
+}
+
+/// Every byte at every place of lawful records, and of the same with the first of all rules broken.
+fn meaningless_bytes_are_named() -> bool {
     let mut random = Random::new(2);
     LETTERS.iter().all(|letter| {
-        let mut record = Record::of_line(&cases::lawful_line(*letter, &mut random));
-        record.set_number(TIMESTAMP, u64::MAX);
+        let lawful = Record::of_line(&cases::lawful_line(*letter, &mut random));
+        let mut late = lawful.clone();
+        late.set_number(TIMESTAMP, u64::MAX);
         (0..STORED).all(|place| {
-            let mut stored = *record.stored();
+            let (mut lawful, mut late) = (*lawful.stored(), *late.stored());
             (0..=255).all(|byte| {
-                stored[place] = byte;
-                let field = meaningless(&stored).unwrap_or(TIMESTAMP);
-                line::write(&stored, &mut [0; LINE]) == Err(Refusal::Field(field))
+                lawful[place] = byte;
+                late[place] = byte;
+                meaningless(&lawful).is_none_or(|field| names(&lawful, field)) && names(&late, TIMESTAMP)
+            })
+        })
+    })
+}
+
+/// Bytes that break a field's rule on every type, by the field and their place (01, The line).
+/// Liquidity and the ids stand apart: only an E and a C have them.
+#[rustfmt::skip]
+const UNLAWFUL: [(usize, usize, &[u8]); 20] = [
+    (1, 0, &[0x00, 0x5C, 0x26, 0x05]), (3, 9, b" "), (4, 13, b"X"), (5, 14, b"A"), (7, 16, b" B"), (8, 20, b"x"),
+    (9, 25, b" 1"), (10, 30, b" "), (11, 36, b" "), (12, 56, b"\x7F"), (13, 76, b"a"), (14, 85, b"A"),
+    (15, 86, &[0; 6]), (16, 92, b" "), (17, 98, b"Y"), (18, 99, &[32]), (19, 101, &[100]), (20, 103, b"F"),
+    (21, 104, &[0; 6]), (22, 110, &[0x00, 0xE4, 0x0B, 0x54, 0x02]),
+];
+const UNLAWFUL_TRADE: [(usize, usize, &[u8]); 3] =
+    [(6, 15, b" "), (23, 120, &[0x00, 0xCA, 0x9A, 0x3B]), (24, 129, &[0x00, 0xCA, 0x9A, 0x3B])];
+/// Bytes without meaning, on every type and where the type has no liquidity and no ids.
+const MEANINGLESS: [(usize, usize, &[u8]); 5] =
+    [(2, 8, b"B"), (22, 118, &[1]), (22, 119, &[1]), (23, 128, &[1]), (24, 137, &[1])];
+const MEANINGLESS_UNTRADED: [(usize, usize, &[u8]); 3] = [(6, 15, b"A"), (23, 120, &[1]), (24, 129, &[1])];
+
+/// Every broken rule with every byte without meaning, on each type.
+fn first_flaws_are_named() -> bool {
+    let mut random = Random::new(3);
+    LETTERS.iter().all(|letter| {
+        let lawful = *Record::of_line(&cases::lawful_line(*letter, &mut random)).stored();
+        let trades = matches!(letter, b'E' | b'C');
+        let unlawful = [&UNLAWFUL[..], if trades { &UNLAWFUL_TRADE } else { &[] }].concat();
+        let meaningless = [&MEANINGLESS[..], if trades { &[] } else { &MEANINGLESS_UNTRADED }].concat();
+        unlawful.iter().all(|(broken, at, content)| {
+            let stored = cases::with(&lawful, *at..at + content.len(), content);
+            names(&stored, *broken)
+                && meaningless.iter().all(|(without, at, content)| {
+                    let stored = cases::with(&stored, *at..at + content.len(), content);
+                    names(&stored, *broken.min(without))
+                })
+        })
+    })
+}
+
+/// Every byte at every place of lawful records: a line is written for one record alone.
+fn written_records_come_back() -> bool {
+    let mut random = Random::new(4);
+    LETTERS.iter().all(|letter| {
+        let lawful = *Record::of_line(&cases::lawful_line(*letter, &mut random)).stored();
+        (0..STORED).all(|place| {
+            (0..=255).all(|byte| {
+                let stored = cases::with(&lawful, place..place + 1, &[byte]);
+                let (mut line, mut again) = ([0; LINE], [0; STORED]);
+                let written = line::write(&stored, &mut line).is_ok();
+                !written || line::read_into(&line, &mut again).is_ok() && again[..] == stored
             })
         })
     })
@@ -225,8 +292,66 @@ fn meanings_come_first() -> bool {
 fn other_records_are_refused() -> bool {
     let stored = Record::of_line(&executed(&[])).stored().repeat(3);
     (0..=stored.len()).filter(|length| *length != STORED).all(|length| {
-        line::write(&stored[..length], &mut [0; LINE]) == Err(Refusal::Field(24))
+        names(&stored[..length], 24)
+            && names(&vec![0xFF; length], 24)
             && line::write(&stored[..length], &mut [0; LINE - 1]) == Err(Refusal::Buffer)
+    })
+}
+
+/// What the trial says to one case.
+fn answer(kind: u8, payload: &[u8]) -> Vec<u8> {
+    let mut said = Vec::new();
+    Trial::default().answer(kind, payload, &mut said);
+    said
+}
+
+/// How many pieces follow one another, each asked for at the end of the one before. None is empty.
+fn pieces_in_turn(text: &[u8]) -> Option<u64> {
+    let mut place: u64 = 0;
+    for count in 0..=text.len() as u64 {
+        let said = String::from_utf8(answer(b'x', &piece_payload(place, text))).ok()?;
+        if said == "piece none\n" {
+            return (place == text.len() as u64).then_some(count);
+        }
+        let (start, end) = said.strip_prefix("piece ")?.trim_end().split_once(' ')?;
+        if start != place.to_string() {
+            return None;
+        }
+        place = end.parse().ok()?;
+    }
+    None
+}
+
+fn readers_give_all_pieces() -> bool {
+    let mut random = Random::new(5);
+    (0..200).all(|_| {
+        let mut text = text_cases::random_text(&mut random);
+        text.truncate(2_000);
+        let count = text_cases::pieces(&text);
+        answer(b'y', &text) == format!("pieces {count}\n").as_bytes() && pieces_in_turn(&text) == Some(count)
+    })
+}
+
+/// Whether a reader gives this piece as the one with the number.
+fn gives(number: u64, text: &[u8], piece: &[u8]) -> bool {
+    answer(b'z', &piece_payload(number, text)) == [b"given [", piece, b"]\n"].concat()
+}
+
+fn numbers_give_all_pieces() -> bool {
+    let mut random = Random::new(6);
+    (0..200).all(|_| {
+        let mut text = text_cases::random_text(&mut random);
+        text.truncate(500);
+        let (mut number, mut rest) = (0, text.as_slice());
+        while !rest.is_empty() {
+            let end = rest.iter().position(|byte| *byte == b'\n').map_or(rest.len(), |at| at + 1);
+            if !gives(number, &text, &rest[..end]) {
+                return false;
+            }
+            number += 1;
+            rest = &rest[end..];
+        }
+        [number, number + 1, u64::MAX].into_iter().all(|past| gives(past, &text, b""))
     })
 }
 

@@ -23,17 +23,22 @@ const MARK: usize = 4;
 /// Bytes for some places of the table.
 type Change = Vec<(usize, Vec<u8>)>;
 
-/// Writes the changes of every rule to the rich table, and changes by chance.
-pub fn write(count: u64, random: &mut Random, hand: &mut Hand) -> io::Result<()> {
+/// Writes the changes of every rule to the rich table, and the counts of a full one.
+pub fn bounds(random: &mut Random, hand: &mut Hand) -> io::Result<()> {
     hand.take(rich_table(random))?;
     apply("a sound table", &[vec![]], hand)?;
     for (name, changes) in groups() {
         apply(name, &changes, hand)?;
     }
-    let by_chance: Vec<_> = (0..count / 40).map(|_| chance(random)).collect();
-    apply("damage by chance", &by_chance, hand)?;
     hand.take(full_table(random))?;
     apply("damage: counts of a full table", &counts(), hand)
+}
+
+/// Writes changes of the rich table by chance.
+pub fn by_chance(count: u64, random: &mut Random, hand: &mut Hand) -> io::Result<()> {
+    hand.take(rich_table(random))?;
+    let changes: Vec<_> = (0..count).map(|_| chance(random)).collect();
+    apply("damage by chance", &changes, hand)
 }
 
 /// Each change is made, asked about, and taken back: the damage check always, of the other entries

@@ -314,13 +314,13 @@ pub fn read_into(piece: &[u8], buffer: &mut [u8]) -> Result<Reading, Refusal> {
 
 /// Writes the line of a record, given as bytes, to the front of the buffer, checking 4 before 3. A
 /// record whose bytes all have a meaning is lawful exactly when the line it makes is, so each field
-/// is laid out and held against its rule.
+/// in turn must have its meaning, is laid out and held against its rule.
 pub fn write(record: &[u8], buffer: &mut [u8]) -> Result<(), Refusal> {
     let room = buffer.get_mut(..LINE).ok_or(Refusal::Buffer)?;
     let record = Record::load(record)?;
     let mut line = [b' '; LINE];
     for field in &FIELDS {
-        if !field.lay_lawful(&record, &mut line) {
+        if !record.has_meaning(field) || !field.lay_lawful(&record, &mut line) {
             return Err(Refusal::Field(field.number));
         }
     }

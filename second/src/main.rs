@@ -32,7 +32,7 @@ use std::process::ExitCode;
 
 const USAGE: &str = "\
 usage: second sheet < CAPTURE | second stream SEED COUNT | second day SEED COUNT | second trial < CASES |
-       second cases SEED COUNT | second vectors | second check";
+       second cases SEED COUNT | second random SEED COUNT | second vectors | second check";
 const BUFFER: usize = 1 << 16;
 
 fn main() -> ExitCode {
@@ -69,6 +69,10 @@ fn command(words: &[&str], output: &mut impl Write) -> io::Result<ExitCode> {
         ["cases", seed, count] => {
             let (Ok(seed), Ok(count)) = (seed.parse(), count.parse()) else { return Ok(usage()) };
             cases::write(seed, count, output)?;
+        }
+        ["random", seed, count] => {
+            let (Ok(seed), Ok(count)) = (seed.parse(), count.parse()) else { return Ok(usage()) };
+            cases::write_random(seed, count, output)?;
         }
         ["vectors"] => vectors::write(output)?,
         ["check"] => {

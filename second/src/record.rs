@@ -13,19 +13,14 @@ pub const NUMBER: usize = 8;
 pub struct Record([u8; STORED]);
 
 impl Record {
-    /// The record that the bytes say. A byte without meaning is refused by its field, and before all
-    /// of them another length, which leaves no whole last field or bytes behind it.
+    /// The record that the bytes say. Bytes of another length say none: they leave no whole last field,
+    /// or stand behind it.
     pub fn load(bytes: &[u8]) -> Result<Record, Refusal> {
-        let Ok(bytes) = bytes.try_into() else { return Err(Refusal::Field(CROSS_ID)) };
-        let record = Record(bytes);
-        match FIELDS.iter().find(|field| !record.has_meaning(field)) {
-            Some(field) => Err(Refusal::Field(field.number)),
-            None => Ok(record),
-        }
+        bytes.try_into().map(Record).map_err(|_| Refusal::Field(CROSS_ID))
     }
 
     /// Whether every byte of a field has a meaning, lawful or not, all earlier ones having theirs.
-    fn has_meaning(&self, field: &Field) -> bool {
+    pub fn has_meaning(&self, field: &Field) -> bool {
         let bytes = self.bytes(field.number);
         let zero = |bytes: &[u8]| bytes.iter().all(|byte| *byte == 0);
         match field.number {

@@ -55,7 +55,7 @@ pub fn writes(line: &[u8], out: &mut impl Write) -> Written {
 }
 
 /// Contents for a field of a record, of its width.
-pub fn stored_contents(field: &Field) -> Vec<Vec<u8>> {
+fn stored_contents(field: &Field) -> Vec<Vec<u8>> {
     if !field.holds_number() {
         return contents(field);
     }
@@ -116,7 +116,8 @@ fn flaws() -> Vec<Flaw> {
     fields.chain(behind_numbers).collect()
 }
 
-/// Every two flaws, of which one must be named.
+/// Every two flaws, of which the first must be named: two broken rules, two bytes without meaning, or
+/// one of each, also in one field.
 fn flaws_at_once(stored: &[u8], out: &mut impl Write) -> Written {
     let flaws = flaws();
     for (number, (places, content)) in flaws.iter().enumerate() {
@@ -166,17 +167,40 @@ pub fn numbers_read(line: &[u8], out: &mut impl Write) -> Written {
 
 // Random cases.
 
-/// The record of a lawful line, changed up to three times. For each field the known contents are
-/// given.
-pub fn random_write(line: &[u8], known: &[Vec<Vec<u8>>], random: &mut Random, out: &mut impl Write) -> Written {
+/// What a record may be changed to: for each field its known contents, and the flaws.
+pub struct Changes {
+    contents: Vec<Vec<Vec<u8>>>,
+    flaws: Vec<Flaw>,
+}
+
+impl Changes {
+    pub fn all() -> Changes {
+        Changes { contents: FIELDS.iter().map(stored_contents).collect(), flaws: flaws() }
+    }
+
+    fn make_one(&self, stored: &mut [u8], random: &mut Random) {
+        match random.below(4) {
+            0 => {
+                let byte = if random.once_in(2) { *random.pick(EDGES) } else { random.any() as u8 };
+                stored[random.below(STORED)] = byte;
+            }
+            1 => {
+                let (places, content) = random.pick(&self.flaws);
+                stored[places.clone()].copy_from_slice(content);
+            }
+            _ => {
+                let field = random.pick(&FIELDS);
+                stored[field.places()].copy_from_slice(random.pick::<Vec<u8>>(&self.contents[field.number - 1]));
+            }
+        }
+    }
+}
+
+/// The record of a lawful line, changed up to three times.
+pub fn random_write(line: &[u8], changes: &Changes, random: &mut Random, out: &mut impl Write) -> Written {
     let mut stored = Record::of_line(line).stored().to_vec();
     for _ in 0..random.below(4) {
-        let field = random.pick(&FIELDS);
-        if random.once_in(4) {
-            stored[random.below(STORED)] = if random.once_in(2) { *random.pick(EDGES) } else { random.any() as u8 };
-        } else {
-            stored[field.places()].copy_from_slice(random.pick::<Vec<u8>>(&known[field.number - 1]));
-        }
+        changes.make_one(&mut stored, random);
     }
     if random.once_in(32) {
         stored.resize(random.below(2 * LINE), 0);

@@ -23,23 +23,28 @@ const RICH: [&str; 2] = [
 ];
 pub const RICH_ORDERS: usize = 9;
 /// How many tables the random traffic is booked on, and how many orders they begin with.
-const TABLES: usize = 24;
+const TABLES: usize = 16;
 const GIVEN: [usize; 8] = [0, 3, 40, 200, 400, 508, 511, 512];
 /// The longest piece of the traffic, or little less.
 const LONGEST_PIECE: usize = 2_000;
 
 type Written = io::Result<()>;
 
-/// Writes all of them, with about a quarter as many booked pieces as the count says.
-pub fn write(count: u64, random: &mut Random, hand: &mut Hand) -> Written {
-    damages::write(count, random, hand)?;
+/// Writes those that are no random ones.
+pub fn bounds(random: &mut Random, hand: &mut Hand) -> Written {
+    damages::bounds(random, hand)?;
     lengths(random, hand)?;
     any_bytes(random, hand)?;
     bookings(random, hand)?;
     bookings_when_full(random, hand)?;
     repeated_keys(random, hand)?;
     sheets(random, hand)?;
-    bad_cases(random, hand)?;
+    bad_cases(random, hand)
+}
+
+/// Writes the random ones, with about a quarter as many booked pieces as the count says.
+pub fn by_chance(count: u64, random: &mut Random, hand: &mut Hand) -> Written {
+    damages::by_chance(count / 40, random, hand)?;
     hand.name("random traffic on random tables")?;
     for given in GIVEN.iter().cycle().take(TABLES) {
         let day = random_day(*given, random);

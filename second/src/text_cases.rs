@@ -1,10 +1,10 @@
-//! Cases about texts: the next piece, and the steps of the sheet program.
+//! Cases about texts: the next piece, all pieces, pieces by number, and the steps of the sheet program.
 
 use std::io::{self, Write};
 
 use crate::cases::put;
 use crate::day::Day;
-use crate::line::{BODY, CR_LF, LINE};
+use crate::line::{BODY, CR_LF, LF, LINE};
 use crate::random::Random;
 use crate::shorthand::{capture, piece, WHOLE_CASE};
 use crate::stream::Stream;
@@ -12,28 +12,49 @@ use crate::trial::LONGEST;
 
 /// What a step may write.
 const ROOMS: [u32; 4] = [64, 65, 100, 60_000];
-/// How many random captures there are for each room and each list of sizes, and the pieces of each.
-const CAPTURES: usize = 2;
+/// Places and numbers far past the end of a text, some of them low in their last 16 or 32 bits.
+const FAR_PAST: [u64; 6] = [1 << 16, 1 << 32, (1 << 32) + 1, 1 << 63, u64::MAX - 1, u64::MAX];
+/// The longest text that has a number before it.
+const LONGEST_NUMBERED: usize = LONGEST - 8;
+/// How many random texts are cut into pieces.
+const RANDOM_TEXTS: usize = 12;
+/// The pieces of a random capture.
 const PIECES: usize = 40;
 /// The longest piece of a random capture, or little less.
 const LONGEST_PIECE: usize = 1_500;
 
 type Written = io::Result<()>;
 
-/// Writes all of them.
-pub fn write(random: &mut Random, out: &mut impl Write) -> Written {
+/// Writes those that are no random ones.
+pub fn bounds(random: &mut Random, out: &mut impl Write) -> Written {
     put(out, b'n', b"next pieces")?;
     next_pieces(random, out)?;
+    put(out, b'n', b"all pieces")?;
+    all_pieces(random, out)?;
+    put(out, b'n', b"pieces by number")?;
+    numbered_pieces(random, out)?;
     put(out, b'n', b"captures by name")?;
     named_captures(random, out)?;
-    put(out, b'n', b"random captures")?;
-    random_captures(random, out)?;
     put(out, b'n', b"bad cases of texts")?;
     bad_cases(out)
 }
 
-pub fn piece_payload(place: u64, text: &[u8]) -> Vec<u8> {
-    [&place.to_le_bytes(), text].concat()
+/// Writes the random ones.
+pub fn by_chance(random: &mut Random, out: &mut impl Write) -> Written {
+    put(out, b'n', b"pieces of random texts")?;
+    for _ in 0..RANDOM_TEXTS {
+        let mut text = random_text(random);
+        put(out, b'y', &text)?;
+        text.truncate(LONGEST_NUMBERED);
+        some_numbers(&text, random, out)?;
+    }
+    put(out, b'n', b"random captures")?;
+    random_captures(random, out)
+}
+
+/// The place or the number of a piece, and a text.
+pub fn piece_payload(number: u64, text: &[u8]) -> Vec<u8> {
+    [&number.to_le_bytes(), text].concat()
 }
 
 pub fn capture_payload(room: u32, sizes: &[u16], text: &[u8]) -> Vec<u8> {
@@ -44,27 +65,92 @@ pub fn capture_payload(room: u32, sizes: &[u16], text: &[u8]) -> Vec<u8> {
 
 // The next piece.
 
+/// Texts with and without LF, inside them and at their ends.
+fn short_texts(random: &mut Random) -> Vec<Vec<u8>> {
+    let two = [piece("A T1 5"), piece("E T1 1")].concat();
+    let unfinished = two[..two.len() - 1].to_vec();
+    let noise = (0..80).map(|_| *random.pick(b"\nA\r\0\x0B\xFF")).collect();
+    let short: [&[u8]; 9] =
+        [b"", b"\n", b"A", b"\n\n\n", CR_LF, b"A\nB", b"A\n\nB\n", b"\r\n\r\n\r", b"\n\r\0\xFF\x0B\x85"];
+    short.into_iter().map(<[u8]>::to_vec).chain([noise, two, unfinished]).collect()
+}
+
 /// From every place of short texts, and far past their end; and from some places of a long one.
 fn next_pieces(random: &mut Random, out: &mut impl Write) -> Written {
-    let two = [piece("A T1 5"), piece("E T1 1")].concat();
-    let unfinished = &two[..two.len() - 1];
-    let noise: Vec<_> = (0..80).map(|_| *random.pick(b"\nA\r\0\x0B\xFF")).collect();
-    let short: [&[u8]; 10] =
-        [b"", b"\n", b"A", b"\n\n\n", CR_LF, b"A\nB", b"A\n\nB\n", b"\r\n\r\n\r", b"\n\r\0\xFF\x0B\x85", &noise];
-    for text in short.into_iter().chain([&two[..], unfinished]) {
+    for text in short_texts(random) {
         let end = text.len() as u64;
-        let places = (0..=end + 2).chain([1 << 16, 1 << 32, (1 << 32) + 1, 1 << 63, u64::MAX - 1, u64::MAX]);
-        for place in places {
-            put(out, b'x', &piece_payload(place, text))?;
+        for place in (0..=end + 2).chain(FAR_PAST) {
+            put(out, b'x', &piece_payload(place, &text))?;
         }
     }
-    let mut long = vec![b'A'; LONGEST - 8];
+    let mut long = vec![b'A'; LONGEST_NUMBERED];
     put(out, b'x', &piece_payload(0, &long))?;
     long[60_000] = b'\n';
     for place in [1, 60_000, 60_001] {
         put(out, b'x', &piece_payload(place, &long))?;
     }
     Ok(())
+}
+
+// All pieces.
+
+/// Of short texts, and of the longest: with no LF, with nothing else, after each CR, and at the ends.
+fn all_pieces(random: &mut Random, out: &mut impl Write) -> Written {
+    for text in short_texts(random) {
+        put(out, b'y', &text)?;
+    }
+    let mut long = vec![b'A'; LONGEST];
+    for text in [&long, &vec![b'\n'; LONGEST], &CR_LF.repeat(LONGEST / CR_LF.len())] {
+        put(out, b'y', text)?;
+    }
+    for at in [LONGEST - 1, LONGEST - 2, 0] {
+        long[at] = b'\n';
+        put(out, b'y', &long)?;
+    }
+    Ok(())
+}
+
+// Pieces by number.
+
+/// Every piece of short texts, and far past their last; and some of the longest.
+fn numbered_pieces(random: &mut Random, out: &mut impl Write) -> Written {
+    for text in short_texts(random) {
+        for number in (0..=pieces(&text) + 1).chain(FAR_PAST) {
+            put(out, b'z', &piece_payload(number, &text))?;
+        }
+    }
+    let mut long = vec![b'A'; LONGEST_NUMBERED];
+    for text in [&long, &vec![LF; LONGEST_NUMBERED], &CR_LF.repeat(LONGEST_NUMBERED / CR_LF.len())] {
+        some_numbers(text, random, out)?;
+    }
+    for at in [LONGEST_NUMBERED - 1, LONGEST_NUMBERED - 2, 0] {
+        long[at] = LF;
+        some_numbers(&long, random, out)?;
+    }
+    Ok(())
+}
+
+/// The first piece, one between, the last, one past it, one anywhere and one far past.
+fn some_numbers(text: &[u8], random: &mut Random, out: &mut impl Write) -> Written {
+    let end = pieces(text);
+    let last = end.saturating_sub(1);
+    for number in [0, random.between(0, last), last, end, random.any(), u64::MAX] {
+        put(out, b'z', &piece_payload(number, text))?;
+    }
+    Ok(())
+}
+
+/// How many there are: one for each LF, and one for a rest.
+pub fn pieces(text: &[u8]) -> u64 {
+    let ends = text.iter().filter(|byte| **byte == LF).count() as u64;
+    ends + u64::from(text.last().is_some_and(|byte| *byte != LF))
+}
+
+/// Any bytes, LF being frequent or rare among them.
+pub fn random_text(random: &mut Random) -> Vec<u8> {
+    let length = random.between(0, LONGEST as u64);
+    let apart = *random.pick(&[1, 2, 10, 140, 1_000, 20_000]);
+    (0..length).map(|_| if random.once_in(apart) { b'\n' } else { random.next() as u8 }).collect()
 }
 
 // The sheet program's steps.
@@ -112,6 +198,7 @@ fn named_captures(random: &mut Random, out: &mut impl Write) -> Written {
     ];
     let lists = lists_of_sizes(random);
     for (number, text) in texts.iter().enumerate() {
+        put(out, b'y', text)?;
         for turn in 0..4 {
             let room = ROOMS[turn];
             let sizes = &lists[(number + 3 * turn) % lists.len()];
@@ -123,12 +210,11 @@ fn named_captures(random: &mut Random, out: &mut impl Write) -> Written {
     put(out, b'c', &capture_payload(60_000, &vec![3; 500], &many))
 }
 
+/// One for each room and each list of sizes.
 fn random_captures(random: &mut Random, out: &mut impl Write) -> Written {
-    for _ in 0..CAPTURES {
-        for sizes in lists_of_sizes(random) {
-            for room in ROOMS {
-                put(out, b'c', &capture_payload(room, &sizes, &random_capture(random)))?;
-            }
+    for sizes in lists_of_sizes(random) {
+        for room in ROOMS {
+            put(out, b'c', &capture_payload(room, &sizes, &random_capture(random)))?;
         }
     }
     Ok(())
@@ -153,6 +239,7 @@ fn bad_cases(out: &mut impl Write) -> Written {
     put(out, b'c', &endless)?;
     for length in 0..=8 {
         put(out, b'x', &vec![0; length])?;
+        put(out, b'z', &vec![0; length])?;
     }
     Ok(())
 }

@@ -23,9 +23,11 @@ pub const LONGEST_TABLE: usize = 41_100;
 const ROOMS: RangeInclusive<u32> = 64..=60_000;
 /// The buffers that a record is written back into after it was read.
 const WRITTEN_BACK: [usize; 4] = [0, 139, 140, 152];
-/// What a buffer is filled with before an entry is called, and what the kind of a piece is before.
+/// What a buffer is filled with before an entry is called, what the kind of a piece is before, and what
+/// the lent numbers are.
 const UNTOUCHED: u8 = b'.';
 const UNTOLD: u8 = 7;
+const LENT: [&str; 4] = ["7", "8", "9", "10"];
 
 /// Answers case after case until the input ends, or a case is too long.
 pub fn run(input: &mut impl Read, output: &mut impl Write) -> io::Result<()> {
@@ -86,6 +88,8 @@ impl Trial {
             b'b' => self.book(payload, out),
             b'h' => self.sheet(payload, out),
             b'x' => next_piece(payload, out),
+            b'y' => pieces(payload, out),
+            b'z' => given(payload, out),
             b'c' => fed(payload, out),
             _ => None,
         };
@@ -102,6 +106,11 @@ fn say(out: &mut Vec<u8>, words: &str) {
 /// What an entry that answers no value says.
 fn outcome(result: Result<(), Refusal>) -> String {
     result.map_or_else(|refusal| refusal.to_string(), |()| "done".to_string())
+}
+
+/// What an entry says that was lent so many numbers: a refusal leaves them as they were.
+fn refused(refusal: Refusal, lent: usize) -> String {
+    format!("{refusal} left {}", LENT[..lent].join(" "))
 }
 
 /// Says some words, and in square brackets all that a buffer holds.
@@ -193,7 +202,7 @@ fn strike_value(payload: &[u8], out: &mut Vec<u8>) -> Option<()> {
     let (code, digits) = payload.split_first()?;
     match strike::value(*code, number(digits)?) {
         Ok(value) => say(out, &format!("strike value {value}\n")),
-        Err(refusal) => say(out, &format!("strike {refusal}\n")),
+        Err(refusal) => say(out, &format!("strike {}\n", refused(refusal, 1))),
     }
     Some(())
 }
@@ -201,7 +210,7 @@ fn strike_value(payload: &[u8], out: &mut Vec<u8>) -> Option<()> {
 fn strike_form(payload: &[u8], out: &mut Vec<u8>) -> Option<()> {
     match strike::form(number(payload)?) {
         Ok((code, digits)) => say(out, &format!("strike form {} {digits:06}\n", char::from(code))),
-        Err(refusal) => say(out, &format!("form {refusal}\n")),
+        Err(refusal) => say(out, &format!("form {}\n", refused(refusal, 2))),
     }
     Some(())
 }
@@ -211,7 +220,7 @@ fn clock_time(payload: &[u8], out: &mut Vec<u8>) -> Option<()> {
         Ok([hours, minutes, seconds, rest]) => {
             say(out, &format!("clock {hours:02}:{minutes:02}:{seconds:02}.{rest:03}\n"));
         }
-        Err(refusal) => say(out, &format!("clock {refusal}\n")),
+        Err(refusal) => say(out, &format!("clock {}\n", refused(refusal, 4))),
     }
     Some(())
 }
@@ -257,7 +266,7 @@ impl Trial {
     fn look_up(&self, key: &[u8], out: &mut Vec<u8>) -> Option<()> {
         match table::look_up(&self.table, key) {
             Ok(place) => say(out, &format!("lookup {place}\n")),
-            Err(refusal) => say(out, &format!("lookup {refusal}\n")),
+            Err(refusal) => say(out, &format!("lookup {}\n", refused(refusal, 1))),
         }
         Some(())
     }
@@ -288,7 +297,7 @@ impl Trial {
         let result = table::write_sheet(&self.table, &mut buffer);
         let sum = sum(&buffer);
         let written = &buffer[..result.unwrap_or(0)];
-        let outcome = result.map_or_else(|refusal| refusal.to_string(), |length| format!("done {length}"));
+        let outcome = result.map_or_else(|refusal| refused(refusal, 1), |length| format!("done {length}"));
         say_buffer(out, &format!("sheet {room} {outcome} sum {sum}"), written);
         Some(())
     }
@@ -307,6 +316,22 @@ fn next_piece(payload: &[u8], out: &mut Vec<u8>) -> Option<()> {
         Some(piece) => say(out, &format!("piece {start} {}\n", start + piece.len())),
         None => say(out, "piece none\n"),
     }
+    Some(())
+}
+
+/// How many pieces there are until nothing is left.
+fn pieces(text: &[u8], out: &mut Vec<u8>) -> Option<()> {
+    let count = text.split_inclusive(|byte| *byte == LF).count();
+    say(out, &format!("pieces {count}\n"));
+    Some(())
+}
+
+/// The piece with a number, counted from 0. No byte says that there is none: no piece is empty.
+fn given(payload: &[u8], out: &mut Vec<u8>) -> Option<()> {
+    let (number, text) = payload.split_first_chunk()?;
+    let number = usize::try_from(u64::from_le_bytes(*number)).unwrap_or(usize::MAX);
+    let piece = text.split_inclusive(|byte| *byte == LF).nth(number).unwrap_or_default();
+    say_buffer(out, "given", piece);
     Some(())
 }
 

@@ -113,7 +113,7 @@ pub fn papers() -> Vec<Vector> {
     vec![
         of_number("Timestamp 34293104 is 09:31:33.104", b'k', 34_293_104, "clock 09:31:33.104"),
         of_number("Timestamp 86399999 is 23:59:59.999", b'k', 86_399_999, "clock 23:59:59.999"),
-        of_number("Timestamp 86400000 has no clock", b'k', 86_400_000, "clock refused 3 field 1"),
+        of_number("Timestamp 86400000 has no clock", b'k', 86_400_000, "clock refused 3 field 1 left 7 8 9 10"),
         reads("86399999 reads", executed(&[(1, "86399999")]), &[" 1[86399999] "]),
         refused_field("86400000 is 3, field 1", executed(&[(1, "86400000")]), 1),
         refused_field("00000012 is 3, field 1", executed(&[(1, "00000012")]), 1),
@@ -121,12 +121,17 @@ pub fn papers() -> Vec<Vector> {
         refused_field("Contracts of five spaces and 0 is 3, field 15", executed(&[(15, "     0")]), 15),
         of_strike("E 550000 is 550,000", b'E', 550_000, "strike value 550000"),
         of_strike("C 205750 is 20,575,000", b'C', 205_750, "strike value 20575000"),
-        of_strike("B 002532 is 3, field 21", b'B', 2_532, "strike refused 3 field 21"),
+        of_strike("B 002532 is 3, field 21", b'B', 2_532, "strike refused 3 field 21 left 7"),
         refused_field("B 002532 on a line is 3, field 21", executed(&[(20, "B"), (21, "002532")]), 21),
-        of_strike("E 000000 is 3, field 21", b'E', 0, "strike refused 3 field 21"),
+        of_strike("E 000000 is 3, field 21", b'E', 0, "strike refused 3 field 21 left 7"),
+        of_strike("F 550000 is 3, field 20", b'F', 550_000, "strike refused 3 field 20 left 7"),
+        of_strike("A bad code is named before its digits", b'F', 0, "strike refused 3 field 20 left 7"),
+        of_strike("A number of seven digits is 3, field 21", b'A', 1_000_000, "strike refused 3 field 21 left 7"),
         of_number("Value 1,000,000 is D 100000", b'f', 1_000_000, "strike form D 100000"),
         of_number("Value 999,999 is E 999999", b'f', 999_999, "strike form E 999999"),
-        of_number("Value 1,000,005 has no form", b'f', 1_000_005, "form refused 3 field 21"),
+        of_number("Value 1,000,005 has no form", b'f', 1_000_005, "form refused 3 field 21 left 7 8"),
+        of_number("Value 0 has no form", b'f', 0, "form refused 3 field 21 left 7 8"),
+        of_number("Value 10,000,000,000 has no form", b'f', 10_000_000_000, "form refused 3 field 21 left 7 8"),
         reads("`  12875000` is the price 1287.5000", executed(&[(22, "  12875000")]), &[" 22[  12875000] "]),
         reads("Five cents is five spaces, `0`, `0500`", executed(&[(22, "     00500")]), &[" 22[       500] "]),
         refused_field("A price of ten spaces is 3, field 22", executed(&[(22, "          ")]), 22),
@@ -188,6 +193,8 @@ pub fn records() -> Vec<Vector> {
     let untouched = format!("write 139 refused 4 [{}]", ".".repeat(139));
     let longer = [EXECUTED_STORED.as_slice(), b"\0"].concat();
     let bad_timestamp: (usize, &[u8]) = (0, &[0xFF; 8]);
+    let bad_date: (usize, &[u8]) = (99, &[0]);
+    let ten_digits: &[u8] = &[0x00, 0xCA, 0x9A, 0x3B];
     vec![
         says("A record of 138 bytes", b'i', room_payload(138, &line), read(138, b"")),
         says("Only its bytes change", b'i', room_payload(140, &line), read(140, b"..")),
@@ -206,6 +213,7 @@ pub fn records() -> Vec<Vector> {
         unwritten("A record of 137 bytes is 3, field 24", EXECUTED_STORED[..137].to_vec(), 24),
         unwritten("A record of 139 bytes is 3, field 24", longer, 24),
         unwritten("A length comes before a type", stored(&[(8, b"B")])[..137].to_vec(), 24),
+        unwritten("and before a broken rule", stored(&[bad_timestamp])[..137].to_vec(), 24),
         unwritten("A type B is 3, field 2", stored(&[(8, b"B")]), 2),
         unwritten("Liquidity in the record of an A is 3, field 6", accepted(&[(15, b"A")]), 6),
         unwritten("A last byte but one of the price", stored(&[(118, &[1])]), 22),
@@ -216,9 +224,23 @@ pub fn records() -> Vec<Vector> {
         unwritten("A Cross Id in the record of an A is 3, field 24", accepted(&[(136, &[1])]), 24),
         unwritten("A type comes before liquidity", accepted(&[(8, b"a"), (15, b"A"), (119, &[1])]), 2),
         unwritten("Liquidity comes before a price", accepted(&[(15, b"A"), (119, &[1])]), 6),
-        unwritten("A byte without meaning comes before a rule", stored(&[bad_timestamp, (137, &[1])]), 24),
-        unwritten("The first broken rule is named", stored(&[bad_timestamp, (15, b" "), (99, &[0])]), 1),
-        unwritten("Liquidity on an E has a meaning and breaks its rule", stored(&[(15, b" "), (99, &[0])]), 6),
+        unwritten("The first broken rule is named", stored(&[bad_timestamp, (15, b" "), bad_date]), 1),
+        unwritten("Liquidity on an E has a meaning and breaks its rule", stored(&[(15, b" "), bad_date]), 6),
+        unwritten("A broken rule comes before a later byte without meaning", stored(&[bad_timestamp, (137, &[1])]), 1),
+        unwritten("also before a type without meaning", stored(&[bad_timestamp, (8, b"B")]), 1),
+        unwritten("and before liquidity without meaning", accepted(&[(13, b"X"), (15, b"A")]), 4),
+        unwritten("A strike of 0 before a last byte of the price", stored(&[(104, &[0; 6]), (119, &[1])]), 21),
+        unwritten("A Match Id of ten digits before a last byte of the Cross Id",
+            stored(&[(120, ten_digits), (137, &[1])]), 23),
+        unwritten("A type without meaning comes before a later broken rule", stored(&[(8, b"B"), (9, b" ")]), 2),
+        unwritten("and liquidity without meaning", accepted(&[(15, b"A"), bad_date]), 6),
+        unwritten("A last byte of the price before a Cross Id of ten digits",
+            stored(&[(119, &[1]), (129, ten_digits)]), 22),
+        unwritten("A Match Id in the record of an A before a last byte of the Cross Id",
+            accepted(&[(120, &[1]), (137, &[1])]), 23),
+        unwritten("A price that is both", stored(&[(110, &[0xFF; 10])]), 22),
+        unwritten("A Match Id that is both", stored(&[(120, ten_digits), (128, &[1])]), 23),
+        unwritten("A Cross Id that is both", stored(&[(129, &[0xFF; 9])]), 24),
         unwritten("Contracts of 2 to the 48 less 1", stored(&[(86, &[0xFF; 6])]), 15),
         unwritten("A Date of 65,535", stored(&[(99, &[0xFF; 2])]), 18),
         unwritten("A Date of 256 + 27", stored(&[(100, &[1])]), 18),
@@ -275,10 +297,10 @@ pub fn tables() -> Vec<Vector> {
         says("Every table reached from empty is undamaged", b'd', vec![], undamaged),
         sums("The whole case's sheet", b'h', sheet(106), "sheet 106 done 106", &whole_sheet),
         sums("Only the bytes it needs change", b'h', sheet(300), "sheet 300 done 106", &whole_sheet),
-        sums("A buffer one byte too short", b'h', sheet(105), "sheet 105 refused 4", " []"),
+        sums("A buffer one byte too short", b'h', sheet(105), "sheet 105 refused 4 left 7", " []"),
         says("A lookup finds T2", b'l', t2.to_vec(), "lookup 1"),
-        says("A key of 25 bytes is one that no order has", b'l', t2[..25].to_vec(), "lookup refused 8"),
-        says("T3 isn't in the table", b'l', key("T3").to_vec(), "lookup refused 8"),
+        says("A key of 25 bytes is one that no order has", b'l', t2[..25].to_vec(), "lookup refused 8 left 7"),
+        says("T3 isn't in the table", b'l', key("T3").to_vec(), "lookup refused 8 left 7"),
         says("T2 in its slot", b'o', order_payload(1, 82), stored),
         says("There is no fourth order", b'o', order_payload(3, 80), format!("order 80 refused 8 [{}]", ".".repeat(80))),
         says("79 bytes are too few", b'o', order_payload(3, 79), format!("order 79 refused 4 [{}]", ".".repeat(79))),
@@ -307,9 +329,9 @@ pub fn tables() -> Vec<Vector> {
     }
     all.extend([
         sums("A damaged table", b'p', patch_payload(4, &[2]), "patch", ""),
-        says("refuses a lookup", b'l', t2.to_vec(), "lookup refused 5"),
+        says("refuses a lookup", b'l', t2.to_vec(), "lookup refused 5 left 7"),
         says("and an order", b'o', order_payload(1, 4), "order 4 refused 5 [....]"),
-        sums("and a sheet", b'h', sheet(0), "sheet 0 refused 5", " []"),
+        sums("and a sheet", b'h', sheet(0), "sheet 0 refused 5 left 7", " []"),
         sums("and any piece", b'b', vec![], "book refused 5", ""),
         says("A table of 8 bytes", b't', vec![0; 8], "table 8 sum 524289"),
         says("is too short to be made empty", b'e', vec![], "empty refused 4 sum 524289"),
@@ -319,18 +341,87 @@ pub fn tables() -> Vec<Vector> {
     all
 }
 
+/// What a reader gives as the piece with a number, counted from 0.
+fn gives(name: &'static str, number: u64, text: &[u8], piece: &[u8]) -> Vector {
+    says(name, b'z', piece_payload(number, text), [b"given [", piece, b"]"].concat())
+}
+
+#[rustfmt::skip]
+fn pieces_by_number() -> Vec<Vector> {
+    let whole = capture(WHOLE_CASE);
+    let many = [&[b'\n'; 256][..], b"A"].concat();
+    vec![
+        gives("The first piece has the number 0", 0, b"AB\nC\nDEF", b"AB\n"),
+        gives("The piece in the middle", 1, b"AB\nC\nDEF", b"C\n"),
+        gives("The last piece", 2, b"AB\nC\nDEF", b"DEF"),
+        gives("One past the last there is no piece", 3, b"AB\nC\nDEF", b""),
+        gives("nor two past it", 4, b"AB\nC\nDEF", b""),
+        gives("nor at 2 to the 32", 1 << 32, b"AB\nC\nDEF", b""),
+        gives("nor at 2 to the 32 and 1", (1 << 32) + 1, b"AB\nC\nDEF", b""),
+        gives("nor at 2 to the 63", 1 << 63, b"AB\nC\nDEF", b""),
+        gives("nor at 2 to the 64 less 1", u64::MAX, b"AB\nC\nDEF", b""),
+        gives("256 LF and a byte, the last LF", 255, &many, b"\n"),
+        gives("256 LF and a byte, the byte", 256, &many, b"A"),
+        gives("256 LF and a byte, one past it", 257, &many, b""),
+        gives("No text has no piece", 0, b"", b""),
+        gives("nor far past", u64::MAX, b"", b""),
+        gives("A text without LF is its only piece", 0, b"AB", b"AB"),
+        gives("A text without LF has no other", 1, b"AB", b""),
+        gives("LF alone is a piece", 0, b"\n", b"\n"),
+        gives("LF alone has no other", 1, b"\n", b""),
+        gives("Three LF in a row, the first", 0, b"\n\n\n", b"\n"),
+        gives("Three LF in a row, the last", 2, b"\n\n\n", b"\n"),
+        gives("Three LF in a row, one past the last", 3, b"\n\n\n", b""),
+        gives("LF in a row inside a text, before them", 0, b"A\n\n\nB", b"A\n"),
+        gives("LF in a row inside a text, one of them", 2, b"A\n\n\nB", b"\n"),
+        gives("LF in a row inside a text, behind them", 3, b"A\n\n\nB", b"B"),
+        gives("CR LF is one piece", 0, b"\r\n", b"\r\n"),
+        gives("CR LF has no other", 1, b"\r\n", b""),
+        gives("A line that ends in CR LF", 1, b"A\r\nB\r\nC", b"B\r\n"),
+        gives("CR alone ends no piece", 0, b"A\rB", b"A\rB"),
+        gives("CR behind LF begins the next", 1, b"A\n\rB", b"\rB"),
+        gives("The last piece of a text that ends with LF", 1, b"A\nB\n", b"B\n"),
+        gives("One past the last of a text that ends with LF", 2, b"A\nB\n", b""),
+        gives("The last piece of a text that ends without LF", 1, b"A\nB", b"B"),
+        gives("One past the last of a text that ends without LF", 2, b"A\nB", b""),
+        gives("A piece of any bytes", 1, b"\x0B\x85\n\0]\xFF[\n\n", b"\0]\xFF[\n"),
+        gives("The first line of the whole case", 0, &whole, &piece("A T1 100")),
+        gives("A line of the whole case", 3, &whole, &piece("A T9 5")),
+        gives("The end of day of the whole case", 7, &whole, b"\r\n"),
+        gives("The end of day of the whole case but its last byte", 7, &whole[..whole.len() - 1], b"\r"),
+        gives("One past the end of day of the whole case", 8, &whole, b""),
+        says("A piece's number of no byte is a bad case", b'z', vec![], "bad case"),
+        says("A piece's number of one byte is a bad case", b'z', vec![0], "bad case"),
+        says("A piece's number of seven bytes is a bad case", b'z', b"\0\0\0\0\0\0\n".to_vec(), "bad case"),
+        says("A piece's number of eight bytes has no text", b'z', b"\0\0\0\0\0\0\0\n".to_vec(), "given []"),
+    ]
+}
+
 /// Pieces of texts, and the sheet program's steps.
 #[rustfmt::skip]
 pub fn texts() -> Vec<Vector> {
     let whole = capture(WHOLE_CASE);
     let printed = format!("fed [line 7 refused 7\n{WHOLE_SHEET}]");
-    vec![
+    let mut all = vec![
         says("A piece runs up to and including the next LF", b'x', piece_payload(0, b"A\nB"), "piece 0 2"),
         says("or to the end of the text", b'x', piece_payload(2, b"A\nB"), "piece 2 3"),
         says("from any place", b'x', piece_payload(1, b"A\nB"), "piece 1 2"),
         says("At the end nothing is left", b'x', piece_payload(3, b"A\nB"), "piece none"),
         says("nor past it", b'x', piece_payload(u64::MAX, b"A\nB"), "piece none"),
         says("An empty text has no piece", b'x', piece_payload(0, b""), "piece none"),
+        says("A reader over no text", b'y', vec![], "pieces 0"),
+        says("A reader over a text without LF", b'y', b"AB".to_vec(), "pieces 1"),
+        says("A reader over LF alone", b'y', b"\n".to_vec(), "pieces 1"),
+        says("A reader over CR alone", b'y', b"\r".to_vec(), "pieces 1"),
+        says("A reader over CR LF", b'y', b"\r\n".to_vec(), "pieces 1"),
+        says("A reader over LF CR", b'y', b"\n\r".to_vec(), "pieces 2"),
+        says("A reader over three LF in a row", b'y', b"\n\n\n".to_vec(), "pieces 3"),
+        says("A reader over a text that ends with LF", b'y', b"A\nB\n".to_vec(), "pieces 2"),
+        says("A reader over a text that ends without LF", b'y', b"A\nB\nC".to_vec(), "pieces 3"),
+        says("A reader over LF in a row inside a text", b'y', b"A\n\n\nB".to_vec(), "pieces 4"),
+        says("A reader over the whole case", b'y', whole.clone(), "pieces 8"),
+        says("A reader over the whole case but its last byte", b'y', whole[..whole.len() - 1].to_vec(), "pieces 8"),
+        says("A reader over the whole case and one byte more", b'y', [&whole[..], b"\0"].concat(), "pieces 9"),
         says("The whole case in chunks of 1", b'c', capture_payload(64, &[1], &whole), &printed),
         says("The whole case in chunks of 139 and 2", b'c', capture_payload(65, &[139, 2], &whole), &printed),
         says("The whole case in one chunk", b'c', capture_payload(60_000, &[2_000], &whole), &printed),
@@ -342,7 +433,9 @@ pub fn texts() -> Vec<Vector> {
         says("No size is a bad case", b'c', capture_payload(64, &[], &whole), "bad case"),
         says("A size of 0 is a bad case", b'c', capture_payload(64, &[1, 0], &whole), "bad case"),
         says("A room of 63 is a bad case", b'c', capture_payload(63, &[1], &whole), "bad case"),
-    ]
+    ];
+    all.extend(pieces_by_number());
+    all
 }
 
 /// Writes their cases.
