@@ -1,7 +1,7 @@
 // Booking a piece into a lent table: plan, then store.
+mod conditions;
 mod planning;
 mod store;
-mod tests;
 
 use order::Figures;
 use refusal::Refusal;

@@ -10,7 +10,7 @@ ghost use Rattle.day.specs.Machine.{found, find, isFound, notOpen, notExecuted}
 ghost use Rattle.table.specs.Tables.{limitOf, tableIn, sound};
 ghost use Rattle.book.specs.Plans.{Plans, planBy};
 use crate::Plan;
-use crate::tests;
+use crate::conditions;
 use layout::Event;
 use layout::Record;
 use order::Order;
@@ -31,7 +31,7 @@ pub fn plan(t: &[u8], r: Record) -> Plan
         return Plan::No(Refusal::KnownKey);
     }
     let event = r.event;
-    if !tests::is_new(event) {
+    if !conditions::is_new(event) {
         return plan_older(t, r);
     }
     if is_full(t) {
@@ -46,7 +46,7 @@ fn is_taken(t: &[u8], r: Record) -> bool
     ensures { λ x. ⌜ x ≡ (isMaker (r .event) && isFound (find (keyOf r) (tableIn (now (t .entry)) .orders))) ⌝ }
 {
     let event = r.event;
-    if !tests::is_maker(event) {
+    if !conditions::is_maker(event) {
         return false;
     }
     let Place::At(_) = slot::find_key(t, header::count(t) as usize, order::key_of(r)) else {
@@ -70,21 +70,21 @@ fn plan_older(t: &[u8], r: Record) -> Plan
     requires { ⌜ isNew (r .event) ≡ false ⌝ }
     ensures { λ p. ⌜ Plans (now (t .entry)) r p ⌝ }
 {
-    let Place::At(i) = slot::find_key(t, header::count(t) as usize, tests::subject(r)) else {
+    let Place::At(i) = slot::find_key(t, header::count(t) as usize, conditions::subject(r)) else {
         return Plan::No(Refusal::UnknownKey);
     };
     let o = slot::order_at(t, i);
-    if tests::differs(o, r) {
+    if conditions::differs(o, r) {
         return Plan::No(Refusal::OtherSeries);
     }
-    if tests::not_open(o, r) {
+    if conditions::not_open(o, r) {
         return Plan::No(Refusal::NotOpen);
     }
-    if tests::not_executed(o, r) {
+    if conditions::not_executed(o, r) {
         return Plan::No(Refusal::NotExecuted);
     }
     let event = r.event;
-    if tests::is_maker(event) & is_full(t) {
+    if conditions::is_maker(event) & is_full(t) {
         return Plan::No(Refusal::Full);
     }
     plan_by(i, o, r)

@@ -75,12 +75,12 @@ firstOf (c ∷ cs) = cond (c .test) (c .number) (firstOf cs)
 abbrev pub answerBy : ℕ → Answer (Unit {0})
 answerBy n = cond (eqb n 0) (value tt) (refused n 0)
 
-pub refused-by : (n m f : ℕ) → answerBy n ≡ refused m f → n ≡ m
+pub refused-by : (n m f : ℕ) → answerBy n ≡ refused m f → (n ≡ m) × (f ≡ 0)
 refused-by n m f e = go (eqb n 0) e
   where
-    go : (b : Bool) → _≡_ {A = Answer (Unit {0})} (cond b (value tt) (refused n 0)) (refused m f) → n ≡ m
+    go : (b : Bool) → _≡_ {A = Answer (Unit {0})} (cond b (value tt) (refused n 0)) (refused m f) → (n ≡ m) × (f ≡ 0)
     go true q = let z : _≡_ {A = ℕ} 0 1 = cc in absurd (omega arith)
-    go false q = cc
+    go false q = (cc, cc)
 
 pub chain-judged : (cs : List Check) → Judged (rulesOf cs) (answerBy (firstOf cs))
 chain-judged [] = tt

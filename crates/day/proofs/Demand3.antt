@@ -15,7 +15,7 @@ use Rattle.day.proofs.Counts.{counts, roots}
 use Rattle.day.proofs.Descent.{descent}
 use Rattle.day.proofs.Listings.{listed, listing-fixed}
 use Rattle.day.proofs.Orders.{length-elders}
-use Rattle.day.proofs.Reached.{figures, mark, accepted, refused-first, refused-field, story}
+use Rattle.day.proofs.Reached.{figures, mark, accepted, refused-first, refused-field, refused-plain, story}
 use Rattle.day.proofs.Shown.{each-once, no-other}
 use Rattle.day.proofs.Sound.{sound}
 use Rattle.day.proofs.Undamaged.{apart}
@@ -40,6 +40,7 @@ demand3 limit =
       accepted = accepted limit;
       refused-first = refused-first limit;
       refused-field = refused-field limit;
+      refused-plain = refused-plain limit;
       each-once =
           λ ps i h.
           let u = apart limit (tableAfter (book limit) ps) (sound limit ps) in

@@ -1,10 +1,11 @@
 -- Every table reached from empty is the one that its history declares, and every line is judged by that history.
 use Prim.Native.Nat.{ℕ}
 use mathlib.Core.Path.{_≡_, refl, sym, ap, subst, _∙_}
-use mathlib.Core.Logic.{_↔_}
+use mathlib.Core.Logic.{_⊎_, inl, inr, _↔_}
 use mathlib.Core.Bool.{Bool, true, false, cond, not}
 use mathlib.Core.List.{List, [], _∷_}
 use Rattle.refusal.specs.Answer.{Answer, value, refused}
+use Rattle.layout.proofs.Demand2.{demand2}
 use Rattle.layout.specs.Line.{Said, line, read}
 use Rattle.layout.specs.declared.Event.the-variants.{Replaced}
 use Rattle.layout.specs.declared.Record.{Record}
@@ -65,8 +66,22 @@ refused-field limit ps p f = (
     go (value x) e q =
         let h = historyAfter (book limit) ps in
         let n = refusalOf limit (dayOf h) x in
-        absurd (said-after limit h (reached limit ps .0) p x e (refused-by n 3 f (sym (said-answer limit (dayOf h) x) ∙ q)))
+        absurd (said-after limit h (reached limit ps .0) p x e (refused-by n 3 f (sym (said-answer limit (dayOf h) x) ∙ q) .0))
     go (refused n g) e q = cc
+
+pub refused-plain : (limit : ℕ) (ps : List (List ℕ)) (p : List ℕ) (n f : ℕ) → answerTo (book limit) ps p ≡ refused n f → (n ≡ 3 → ⊥) → f ≡ 0
+refused-plain limit ps p n f q other = go (read p) refl q
+  where
+    read-plain : (m g : ℕ) → _≡_ {A = Answer (Unit {0})} (refused m g) (refused n f) → ((m ≡ 1) × (g ≡ 0)) ⊎ ((m ≡ 2) × (g ≡ 0)) ⊎ (m ≡ 3) → f ≡ 0
+    read-plain m g q (inl e) = let z = e .1 in cc
+    read-plain m g q (inr (inl e)) = let z = e .1 in cc
+    read-plain m g q (inr (inr e)) = absurd (other (cc))
+
+    go : (a : Answer Said) → read p ≡ a → bookRead limit (tableAfter (book limit) ps) a .answer ≡ refused n f → f ≡ 0
+    go (value x) e q =
+        let t = tableAfter (book limit) ps in
+        refused-by (refusalOf limit t x) n f (sym (said-answer limit t x) ∙ q) .1
+    go (refused m g) e q = read-plain m g q (demand2 .other-reads p m g e)
 
 -- ---- "An order replaced itself."
 

@@ -67,6 +67,8 @@ pub record Demand3 (limit : ℕ) (book : Table → List ℕ → Booked) (sheet :
   pub refused-first : (ps : List (List ℕ)) (p : List ℕ) (n : ℕ)
       → ((f : ℕ) × (answerTo book ps p ≡ refused n f)) ↔ FirstOf (rules limit (historyAfter book ps) p) n
   pub refused-field : (ps : List (List ℕ)) (p : List ℕ) (f : ℕ) → (answerTo book ps p ≡ refused 3 f) ↔ (read p ≡ refused 3 f)
+  -- 01: "Each answers its number (3 also the field) and no value": any other comes with no field
+  pub refused-plain : (ps : List (List ℕ)) (p : List ℕ) (n f : ℕ) → answerTo book ps p ≡ refused n f → (n ≡ 3 → ⊥) → f ≡ 0
   -- "the sheet shows every accepted order once and no other"
   pub each-once : (ps : List (List ℕ)) (i : ℕ) → i < length (ordersOf (historyAfter book ps)) → shown i (sheet (tableAfter book ps) .rows) ≡ 1
   pub no-other : (ps : List (List ℕ)) (i : ℕ) → length (ordersOf (historyAfter book ps)) ≤ i → shown i (sheet (tableAfter book ps) .rows) ≡ 0

@@ -188,7 +188,7 @@ known k [] = false
 known k (endOfDay ∷ h) = known k h
 known k (line r ∷ h) = makes k r || known k h
 
--- the line that made it
+-- the line that made it: the latest that makes an order with this key (refusal 7 leaves no second one), or `none` where no line does
 abbrev pub making : Key → History → Record → Record
 making k [] none = none
 making k (endOfDay ∷ h) none = making k h none

@@ -2,9 +2,10 @@
 ghost use Prim.Native.Nat.{_+_, _≤_};
 ghost use mathlib.Core.Path.{_≡_};
 ghost use lib.ListN.{length, drop};
-ghost use Rattle.piece.specs.Pieces.{nextPiece, pieceLength};
+ghost use Rattle.piece.specs.Pieces.{pieceLength};
+ghost use Rattle.piece.specs.Promises.{Nexts};
 
-const LF: u8 = 10;
+pub const LF: u8 = 10;
 
 // The next piece of a text, by the place behind it.
 pub enum Ahead {
@@ -29,7 +30,7 @@ pub fn end(text: &[u8], at: usize) -> usize
 
 // Any text, any place.
 pub fn next(text: &[u8], at: usize) -> Ahead
-    ensures { λ r. ⌜ r ≡ nextPiece (now (text .entry)) at ⌝ }
+    ensures { λ r. ⌜ Nexts (now (text .entry)) at r ⌝ }
 {
     if text.len() <= at {
         return Ahead::Nothing;

@@ -2,8 +2,9 @@
 ghost use mathlib.Core.Path.{_≡_};
 ghost use lib.ListN.{length};
 ghost use Rattle.piece.specs.Pieces.{pieces};
+ghost use Rattle.piece.specs.Promises.{Nexts};
 ghost use Rattle.reader.specs.Handed.{VeryBytes};
-ghost use Rattle.reader.specs.Reading.{overText, ahead, pastPiece};
+ghost use Rattle.reader.specs.Reading.{overText, pastPiece};
 use piece::Ahead;
 
 mod cutter;
@@ -22,7 +23,7 @@ pub fn over<'a>(text: &'a [u8]) -> Reader<'a>
 
 // The next piece, by the place behind it, or that nothing is left.
 pub fn next<'a>(r: Reader<'a>) -> Ahead
-    ensures { λ a. ⌜ a ≡ ahead (r .entry) ⌝ }
+    ensures { λ a. ⌜ Nexts (now (r .entry .text)) (r .entry .at) a ⌝ }
 {
     piece::next(r.text, r.at)
 }

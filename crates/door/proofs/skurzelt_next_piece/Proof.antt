@@ -17,12 +17,12 @@ enum-told c = search needs
 returns : tie.Need-returns
 returns c =
     let start = c .before .before .before .before .before in
-    ahead (now (start .args .text)) (start .args .at) _ _ (c .before .before .before .next .ensures) (c .before .e .given .1)
+    ahead (now (start .args .text)) (start .args .at) _ _ (c .before .before .before .next .ensures .said) (c .before .e .given .1)
 
 returns-2 : tie.Need-returns-2
 returns-2 c =
     let start = c .before .before .before .before in
-    ahead (now (start .args .text)) (start .args .at) _ _ (c .before .before .next .ensures) (c .enum-told .given .1)
+    ahead (now (start .args .text)) (start .args .at) _ _ (c .before .before .next .ensures .said) (c .enum-told .given .1)
 
 pub skurzelt-next-piece-spec : {M : Type 1} → statement M
 skurzelt-next-piece-spec =

@@ -45,6 +45,7 @@ use denote.Triple.Walked.{says, Stays, stay-none-slice, walkOf, goes-none-slice,
 use denote.Exit.{yes}
 use denote.Triple.Clauses.{ensured, lasts}
 use Rattle.piece.specs.Pieces.{pieces}
+use Rattle.piece.specs.Promises.{Nexts}
 use Rattle.piece.specs.declared.Ahead.{Ahead}
 use Rattle.piece.specs.declared.Ahead.the-variants.{Piece, Nothing}
 use Rattle.piece.proofs.Ahead as S
@@ -164,8 +165,8 @@ module _ {M : Type 1} (𝓤 : URA M) (H : Heap 𝓤) (A : Atoms 𝓤) (W : Given
   over-said : (r : Reader) → ent 𝓤 (ensured 𝓤 H A over.ended (over.clauses 𝓤 H A mem run) (κ, tt) (s, tt) tt r) (fact 𝓤 (r ≡ overText s))
   over-said r = exE 𝓤 _ (λ ws. snd∗ 𝓤 (sem 𝓤 H A (lasts over.ended (κ, tt) (s, tt) ws)) (fact 𝓤 (r ≡ overText s)))
 
-  next-said : (i : ℕ) (a : Ahead) → ent 𝓤 (ensured 𝓤 H A next.ended (next.clauses 𝓤 H A mem run) (κ, tt) (at i, tt) tt a) (fact 𝓤 (a ≡ ahead (at i)))
-  next-said i a = exE 𝓤 _ (λ ws. snd∗ 𝓤 (sem 𝓤 H A (lasts next.ended (κ, tt) (at i, tt) ws)) (fact 𝓤 (a ≡ ahead (at i))))
+  next-said : (i : ℕ) (a : Ahead) → ent 𝓤 (ensured 𝓤 H A next.ended (next.clauses 𝓤 H A mem run) (κ, tt) (at i, tt) tt a) (fact 𝓤 (Nexts (now s) i a))
+  next-said i a = exE 𝓤 _ (λ ws. snd∗ 𝓤 (sem 𝓤 H A (lasts next.ended (κ, tt) (at i, tt) ws)) (fact 𝓤 (Nexts (now s) i a)))
 
   past-said : (i : ℕ) (r : Reader) → ent 𝓤 (ensured 𝓤 H A past.ended (past.clauses 𝓤 H A mem run) (κ, tt) (at i, tt) tt r) (fact 𝓤 (r ≡ pastPiece (at i)))
   past-said i r = exE 𝓤 _ (λ ws. snd∗ 𝓤 (sem 𝓤 H A (lasts past.ended (κ, tt) (at i, tt) ws)) (fact 𝓤 (r ≡ pastPiece (at i))))
@@ -260,11 +261,11 @@ module _ {M : Type 1} (𝓤 : URA M) (H : Heap 𝓤) (A : Atoms 𝓤) (W : Given
         use2 W (raw (Next 𝓤 H A mem run .pre (to-next i)) ⊛ ‵ Own) (goes-next i fits) $ split ! $
         calls-at ! (fmOf 𝓤 H (W .laws) 𝓣) (Next 𝓤 H A mem run) known-next (to-next i) (and-then ! (load ! (from ! (stop !)) (look ! 4 refl)) (no-more !)) (λ u.
         use1 W (later (some (λ (a : Ahead). (Token 𝓤 κ q ⊛ ‵ (S.the-row .own a (u ∷ []))) ⊛ raw (ensured 𝓤 H A next.ended (next.clauses 𝓤 H A mem run) (κ, tt) (at i, tt) tt a)))) (id⊢ 𝓤 _) $ await ! tt $ pick ! (λ a.
-        split ! $ move ! (1 ∷ []) $ use1 W (raw (fact 𝓤 (a ≡ ahead (at i)))) (next-said i a) $ heard ! (a ≡ ahead (at i)) (λ g. split ! $ move ! (1 ∷ []) $
+        split ! $ move ! (1 ∷ []) $ use1 W (raw (fact 𝓤 (Nexts (now s) i a))) (next-said i a) $ heard ! (Nexts (now s) i a) (λ g. split ! $ move ! (1 ∷ []) $
         -- [what the answer owns; the token; what the text owns; room for _6; …; _5; …; room for _4; …; _3; …; _2; …; _1; …; room for _0; …]
         peeks ! S.the-row (Is S.the-row) (shows 𝓤 H A S.the-row) a (u ∷ []) (λ is.
         land ! (from ! (stop !)) (init ! 7 refl (EL.lawful S.the-type S′.the-laws 𝓤 H A W tt .typed a _ is .0)) $ drop ! $
-        rewrite ! 6 (λ (z : Val). ‵ (fat fullShare S′.mir l₄ 0 z)) (ap only (EL.tells S.the-type S′.the-laws a (u ∷ []) is)) refl $ forget ! 4 refl $ chosen x a g))))
+        rewrite ! 6 (λ (z : Val). ‵ (fat fullShare S′.mir l₄ 0 z)) (ap only (EL.tells S.the-type S′.the-laws a (u ∷ []) is)) refl $ forget ! 4 refl $ chosen x a (g .said)))))
 
     -- the loop from the first place on, and what follows it
     goes-round : Sq W (At begins) (runs C Λ En mir.t-3 (atRet En Post))

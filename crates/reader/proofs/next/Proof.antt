@@ -19,6 +19,7 @@ use types.Run.{look, init, forget, stop, fld, from, load, of-opd, and-then, no-m
 use sound.WpLaws.{FmC, fmOf, WpFn-mono}
 use denote.RattleType.{owns}
 use denote.Laws.{Is, shows}
+use denote.Ref.{now}
 use denote.Builtin.{u8, usize}
 use denote.Slice.{ShrSlice}
 use denote.Steps.{peeks, heard, nothing}
@@ -32,6 +33,7 @@ use denote.Triple.Table.{entered, cited}
 use denote.Triple.Walked.{says, Stays, stay-none, walkOf, goes-none, Walks, ends-at, walked, walk-meets}
 use denote.Exit.{yes}
 use denote.Triple.Clauses.{ensured, lasts}
+use Rattle.piece.specs.Promises.{Nexts}
 use Rattle.piece.specs.declared.Ahead.{Ahead}
 use Rattle.piece.proofs.Ahead as S
 use Rattle.piece.proofs.Ahead.Laws as S′
@@ -39,7 +41,6 @@ use Rattle.piece.proofs.next as cutter
 use Rattle.piece.proofs.next.Symbol as cutter-def
 use Rattle.piece.proofs.next.Symbol.{name as #piece·next}
 use Rattle.piece.proofs.next.Met as cutter-thm
-use Rattle.reader.specs.Reading.{ahead}
 use Rattle.reader.specs.declared.Reader.{Reader}
 use Rattle.reader.proofs.Reader.Laws as T′
 use Rattle.reader.proofs.Apart.{Held, D, L, passed, Token, Own, apart}
@@ -70,10 +71,10 @@ module _ {M : Type 1} (𝓤 : URA M) (H : Heap 𝓤) (A : Atoms 𝓤) (W : Given
   asked = qed W (Token 𝓤 κ q ∷ ‵ (owns (ShrSlice (named 0) κ u8 ∷ usize ∷ []) (d .text, (d .at, tt)) (passed d)) ∷ []) ∵ join ! $ frame ! $ done !
 
   -- of the callee's `ensured`, the clause alone: it has no `&mut`, so what is said of last values is dropped
-  said : (r : Ahead) → ent 𝓤 (ensured 𝓤 H A cutter.ended (cutter.clauses 𝓤 H A mem run) (κ, tt) (d .text, (d .at, tt)) tt r) (fact 𝓤 (r ≡ ahead d))
-  said r = exE 𝓤 _ (λ ws. snd∗ 𝓤 (sem 𝓤 H A (lasts cutter.ended (κ, tt) (d .text, (d .at, tt)) ws)) (fact 𝓤 (r ≡ ahead d)))
+  said : (r : Ahead) → ent 𝓤 (ensured 𝓤 H A cutter.ended (cutter.clauses 𝓤 H A mem run) (κ, tt) (d .text, (d .at, tt)) tt r) (fact 𝓤 (Nexts (now (d .text)) (d .at) r))
+  said r = exE 𝓤 _ (λ ws. snd∗ 𝓤 (sem 𝓤 H A (lasts cutter.ended (κ, tt) (d .text, (d .at, tt)) ws)) (fact 𝓤 (Nexts (now (d .text)) (d .at) r)))
 
-  exits : (r : Ahead) (u : Val) → r ≡ ahead d → ent 𝓤 (⋆ 𝓤 H A (‵ (S.the-row .own r (u ∷ [])) ∷ Token 𝓤 κ q ∷ ‵ (Own κ d) ∷ [])) (Post u)
+  exits : (r : Ahead) (u : Val) → Nexts (now (d .text)) (d .at) r → ent 𝓤 (⋆ 𝓤 H A (‵ (S.the-row .own r (u ∷ [])) ∷ Token 𝓤 κ q ∷ ‵ (Own κ d) ∷ [])) (Post u)
   exits r u e =
       qed W (‵ (S.the-row .own r (u ∷ [])) ∷ Token 𝓤 κ q ∷ ‵ (Own κ d) ∷ []) ∵
       suffices ! _ (ends-at 𝓤 H A next.ended stayed (next.clauses 𝓤 H A mem run) W (((κ, tt), (q, tt), tt, (d, tt), (mach ∷ [], tt)), tt) u r (tt, tt) (tt, tt)) $ says ! e $
@@ -89,7 +90,7 @@ module _ {M : Type 1} (𝓤 : URA M) (H : Heap 𝓤) (A : Atoms 𝓤) (W : Given
         move ! (8 ∷ []) $ use1 W (raw (Cutter 𝓤 H A mem run .pre to) ⊛ ‵ (Own κ d)) (apart 𝓤 H A W κ q d (Cutter 𝓤 H A mem run .pre to) asked (wt .1 .1 .0 .fits)) $ split ! $
         calls-at ! fm (Cutter 𝓤 H A mem run) known to (and-then ! (load ! (from ! (stop !)) (look ! 4 refl)) (and-then ! (load ! (from ! (stop !)) (look ! 2 refl)) (no-more !))) (λ u.
         use1 W (later (some (λ (r : Ahead). (Token 𝓤 κ q ⊛ ‵ (S.the-row .own r (u ∷ []))) ⊛ raw (ensured 𝓤 H A cutter.ended (cutter.clauses 𝓤 H A mem run) (κ, tt) (d .text, (d .at, tt)) tt r)))) (id⊢ 𝓤 _) $ await ! tt $ pick ! (λ r.
-        split ! $ move ! (1 ∷ []) $ use1 W (raw (fact 𝓤 (r ≡ ahead d))) (said r) $ heard ! (r ≡ ahead d) (λ e. split ! $ move ! (1 ∷ []) $
+        split ! $ move ! (1 ∷ []) $ use1 W (raw (fact 𝓤 (Nexts (now (d .text)) (d .at) r))) (said r) $ heard ! (Nexts (now (d .text)) (d .at) r) (λ e. split ! $ move ! (1 ∷ []) $
         -- [the answer; the token; what the reader owns; _3; …; _2; …; _1; …; room for _0; …]
         peeks ! S.the-row (Is S.the-row) (shows 𝓤 H A S.the-row) r (u ∷ []) (λ is.
         land ! (from ! (stop !)) (init ! 9 refl (EL.lawful S.the-type S′.the-laws 𝓤 H A W tt .typed r _ is .0)) $

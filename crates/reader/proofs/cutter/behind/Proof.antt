@@ -1,5 +1,5 @@
 -- `reader::cutter::behind` meets its contract: what `piece::next` answers is the place, or shows that there is none.
-use mathlib.Core.Path.{_≡_}
+use mathlib.Core.Path.{_≡_, sym, _∙_}
 use borrow.Author.Needs.{needs}
 use denote.Ref.{now}
 use Rattle.piece.specs.Pieces.{nextPiece}
@@ -20,13 +20,13 @@ enum-told c = search needs
 returns : tie.Need-returns
 returns c =
     let a = c .before .before .before .before .before .args in
-    let found : nextPiece (now (a .text)) (a .at) ≡ Piece (c .before .e .given .0 .0) = cc in
+    let found : nextPiece (now (a .text)) (a .at) ≡ Piece (c .before .e .given .0 .0) = sym (c .before .before .before .next .ensures .said) ∙ c .before .e .given .1 in
     piece-ahead (now (a .text)) (a .at) (c .before .e .given .0 .0) found .1
 
 returns-2 : tie.Need-returns-2
 returns-2 c =
     let a = c .before .before .before .before .args in
-    let none : nextPiece (now (a .text)) (a .at) ≡ Nothing = cc in
+    let none : nextPiece (now (a .text)) (a .at) ≡ Nothing = sym (c .before .before .next .ensures .said) ∙ c .enum-told .given .1 in
     nothing-ahead (now (a .text)) (a .at) none .1
 
 pub behind-spec : {M : Type 1} → statement M

@@ -1,7 +1,7 @@
--- `book::tests::differs` meets its contract.
+-- `book::conditions::differs` meets its contract.
 use borrow.Author.Needs.{needs}
-use Rattle.book.proofs.tests.differs.Statement.{statement}
-use Rattle.book.proofs.tests.differs.Tie as tie
+use Rattle.book.proofs.conditions.differs.Statement.{statement}
+use Rattle.book.proofs.conditions.differs.Tie as tie
 
 series-of-requires : tie.Need-series-of-requires
 series-of-requires c κs = search needs

@@ -1,10 +1,9 @@
--- `book::tests::not_executed` meets its contract.
+-- `book::conditions::not_open` meets its contract.
+use mathlib.Core.Bool.{or-false}
+use mathlib.Core.Path.{sym}
 use borrow.Author.Needs.{needs}
-use Rattle.book.proofs.tests.not_executed.Statement.{statement}
-use Rattle.book.proofs.tests.not_executed.Tie as tie
-
-sub-unbroken : tie.Need-sub-unbroken
-sub-unbroken c = search needs
+use Rattle.book.proofs.conditions.not_open.Statement.{statement}
+use Rattle.book.proofs.conditions.not_open.Tie as tie
 
 enum-told : tie.Need-enum-told
 enum-told c = search needs
@@ -28,13 +27,13 @@ returns : tie.Need-returns
 returns c = rw (c .enum-told .given .1)
 
 returns-2 : tie.Need-returns-2
-returns-2 c = rw (c .enum-told2 .given .1)
+returns-2 c = rw (c .before .enum-told2 .given .1) (sym (or-false _))
 
 returns-3 : tie.Need-returns-3
-returns-3 c = rw (c .enum-told3 .given .1)
+returns-3 c = rw (c .before .enum-told3 .given .1) (sym (or-false _))
 
 returns-4 : tie.Need-returns-4
-returns-4 c = rw (c .before .enum-told4 .given .1)
+returns-4 c = rw (c .enum-told4 .given .1)
 
 returns-5 : tie.Need-returns-5
 returns-5 c = rw (c .enum-told5 .given .1)
@@ -42,11 +41,10 @@ returns-5 c = rw (c .enum-told5 .given .1)
 returns-6 : tie.Need-returns-6
 returns-6 c = rw (c .enum-told6 .given .1)
 
-pub not-executed-spec : {M : Type 1} → statement M
-not-executed-spec =
+pub not-open-spec : {M : Type 1} → statement M
+not-open-spec =
     tie.close
     (tie.spec
-    sub-unbroken
     enum-told
     enum-told-2
     enum-told-3

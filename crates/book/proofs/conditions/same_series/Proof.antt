@@ -1,9 +1,9 @@
--- `book::tests::same_series` meets its contract.
+-- `book::conditions::same_series` meets its contract.
 use mathlib.Core.Path.{_≡_, sym, _∙_}
 use borrow.Author.Needs.{needs}
 use lib.ListN.{length}
-use Rattle.book.proofs.tests.same_series.Statement.{statement}
-use Rattle.book.proofs.tests.same_series.Tie as tie
+use Rattle.book.proofs.conditions.same_series.Statement.{statement}
+use Rattle.book.proofs.conditions.same_series.Tie as tie
 
 slice-aggregate-same-run : tie.Need-slice-aggregate-same-run
 slice-aggregate-same-run c = search needs

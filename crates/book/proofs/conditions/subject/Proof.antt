@@ -1,8 +1,8 @@
--- `book::tests::subject` meets its contract.
+-- `book::conditions::subject` meets its contract.
 use mathlib.Core.Path.{sym, _∙_}
 use borrow.Author.Needs.{needs}
-use Rattle.book.proofs.tests.subject.Statement.{statement}
-use Rattle.book.proofs.tests.subject.Tie as tie
+use Rattle.book.proofs.conditions.subject.Statement.{statement}
+use Rattle.book.proofs.conditions.subject.Tie as tie
 
 is-replace-requires : tie.Need-is-replace-requires
 is-replace-requires c κs = search needs

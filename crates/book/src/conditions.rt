@@ -1,4 +1,4 @@
-// What the tests of a line ask: of its event, and of the order that it speaks of, by value.
+// What the conditions of refusals 7 to 12 ask of a line: of its event, and of the order that it speaks of, by value.
 ghost use mathlib.Core.Path.{_≡_};
 ghost use lib.ListN.{length};
 ghost use Rattle.layout.specs.Line.{same};

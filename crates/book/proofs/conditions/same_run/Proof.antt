@@ -1,10 +1,10 @@
--- `book::tests::same_run` meets its contract.
+-- `book::conditions::same_run` meets its contract.
 use mathlib.Core.Path.{_∙_}
 use borrow.Author.Needs.{needs}
 use denote.Ref.{now}
 use Rattle.book.proofs.Tested.{same-whole}
-use Rattle.book.proofs.tests.same_run.Statement.{statement}
-use Rattle.book.proofs.tests.same_run.Tie as tie
+use Rattle.book.proofs.conditions.same_run.Statement.{statement}
+use Rattle.book.proofs.conditions.same_run.Tie as tie
 
 same-requires : tie.Need-same-requires
 same-requires c κs = search needs
