@@ -1,7 +1,6 @@
 // Writing a record. The fields are written a group at a time, as they are read and checked.
-ghost use Prim.Native.Nat.{_+_, _≤_, _<_};
+ghost use Prim.Native.Nat.{_+_, _≤_};
 ghost use mathlib.Core.Path.{_≡_};
-ghost use mathlib.Core.List.{[], _∷_};
 ghost use lib.ListN.{length};
 ghost use lib.Seq.{sets};
 ghost use Rattle.line.specs.Promises.{Write};
@@ -29,13 +28,6 @@ pub fn write(r: Record, out: &mut [u8]) -> Written
     Written::Done
 }
 
-fn byte(out: &mut [u8], at: usize, b: u8)
-    requires { ⌜ at < length (now out) ⌝ }
-    ensures { λ _. ⌜ now (out .exit) ≡ sets (now (out .entry)) at (b ∷ []) ⌝ }
-{
-    out[at] = b;
-}
-
 // A match or cross id, blank where the event carries none.
 fn id(out: &mut [u8], at: usize, trade: bool, v: u64)
     requires { ⌜ at + 9 ≤ length (now out) ⌝ }
@@ -57,11 +49,11 @@ fn event_fields(r: Record, out: &mut [u8])
     let trade = event::trade_of(event);
     let firm = r.firm;
     put::filled(out, 0, 8, r.timestamp, b' ');
-    byte(out, 8, event::type_of(event));
+    put::byte(out, 8, event::type_of(event));
     put::run(out, 9, &firm);
-    byte(out, 13, r.capacity);
-    byte(out, 14, r.position);
-    byte(out, 15, trade.liquidity);
+    put::byte(out, 13, r.capacity);
+    put::byte(out, 14, r.position);
+    put::byte(out, 15, trade.liquidity);
     account_fields(r, out);
 }
 
@@ -92,11 +84,11 @@ fn order_fields(r: Record, out: &mut [u8])
 {
     let reference = r.reference;
     put::run(out, 76, &reference);
-    byte(out, 85, r.side);
+    put::byte(out, 85, r.side);
     put::filled(out, 86, 6, r.contracts, b' ');
     let root = r.root;
     put::run(out, 92, &root);
-    byte(out, 98, r.month);
+    put::byte(out, 98, r.month);
     series_fields(r, out);
 }
 
@@ -107,7 +99,7 @@ fn series_fields(r: Record, out: &mut [u8])
 {
     put::filled(out, 99, 2, r.date, b'0');
     put::filled(out, 101, 2, r.year, b'0');
-    byte(out, 103, r.denominator);
+    put::byte(out, 103, r.denominator);
     put::filled(out, 104, 6, r.strike, b'0');
     put::price(out, 110, 10, r.price);
     trade_fields(r, out);
