@@ -17,18 +17,16 @@ use Rattle.field.specs.Byte.{all}
 use Rattle.field.specs.Kept.{member}
 use Rattle.field.proofs.Fill.{between}
 use Rattle.layout.specs.Demand2.{LawfulRecord}
-use Rattle.layout.specs.Layout.{types, liquidities, leastStrike, onTrade, part}
+use Rattle.layout.specs.Layout.{types, liquidities, isTrade, leastStrike, onTrade, tradeId, part}
 use Rattle.layout.specs.Line.{line, read, lineOf, rowsFor}
-use Rattle.layout.specs.Records.{typeOf, eventOf, liquidityOf, matchOf, crossOf, fieldsOf}
-use Rattle.layout.specs.Rule.{num, number, code, kept, blank, writes, lawful}
+use Rattle.layout.specs.Records.{typeOf, eventOf, noTrade, tradeOf, liquidityOf, matchOf, crossOf, fieldsOf}
+use Rattle.layout.specs.Rule.{num, code, kept, blank, writes, lawful}
 use Rattle.layout.specs.declared.Event.{Event}
 use Rattle.layout.specs.declared.Event.the-variants.{Accepted, Executed, Cancelled, Broken, Replaced, Repriced}
 use Rattle.layout.specs.declared.Record.{Record}
 use Rattle.layout.specs.declared.Trade.{Trade}
 use Rattle.layout.proofs.Demand2.{demand2}
 use Rattle.layout.proofs.Rules.{both}
-use Rattle.line.specs.Groups.{isTrade}
-use Rattle.line.specs.Writes.{noTrade, tradeOf}
 use Rattle.door.specs.Images.{imageOf, oddId, recordIn, unmeant}
 use Rattle.door.specs.Promises.{writeAnswer, Writes}
 use Rattle.door.proofs.Cells.{cells, cellAt, apart, clear, numbers-are-cells, length-cells, part-apart, part-cell}
@@ -81,7 +79,7 @@ liquidity-byte (Broken t) = refl
 liquidity-byte Replaced = refl
 liquidity-byte Repriced = refl
 
-match-small : (e : Event) → lawful (onTrade (typeOf e) (number 0 999999999) (kept blank)) 9 (matchOf e) ≡ true → tradeOf e .«match_id» < 256 ^ 8
+match-small : (e : Event) → lawful (tradeId (typeOf e)) 9 (matchOf e) ≡ true → tradeOf e .«match_id» < 256 ^ 8
 match-small Accepted l = omega arith
 match-small (Executed t) l = omega (arith, between 0 999999999 (t .«match_id») l .1)
 match-small Cancelled l = omega arith
@@ -89,7 +87,7 @@ match-small (Broken t) l = omega (arith, between 0 999999999 (t .«match_id») l
 match-small Replaced l = omega arith
 match-small Repriced l = omega arith
 
-cross-small : (e : Event) → lawful (onTrade (typeOf e) (number 0 999999999) (kept blank)) 9 (crossOf e) ≡ true → tradeOf e .«cross_id» < 256 ^ 8
+cross-small : (e : Event) → lawful (tradeId (typeOf e)) 9 (crossOf e) ≡ true → tradeOf e .«cross_id» < 256 ^ 8
 cross-small Accepted l = omega arith
 cross-small (Executed t) l = omega (arith, between 0 999999999 (t .«cross_id») l .1)
 cross-small Cancelled l = omega arith

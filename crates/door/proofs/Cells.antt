@@ -13,8 +13,8 @@ use Rattle.cell.specs.Cells.{leBytes}
 use Rattle.cell.proofs.Laws.{length-le, part-before, part-after, part-whole}
 use Rattle.layout.proofs.Rules.{both, either}
 use Rattle.layout.specs.Layout.{part}
+use Rattle.layout.specs.Records.{tradeOf}
 use Rattle.layout.specs.declared.Record.{Record}
-use Rattle.line.specs.Writes.{tradeOf}
 use Rattle.door.specs.Images.{idsSet, earlySet, lateSet, numbersSet}
 
 pub record Cell : Type 0 where

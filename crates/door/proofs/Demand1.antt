@@ -17,9 +17,10 @@ use Rattle.refusal.specs.declared.Refusal.{Refusal}
 use Rattle.refusal.specs.declared.Refusal.the-variants.{NoLine, BadByte, Field, NoRoom, Damaged, DayOver, KnownKey, UnknownKey, OtherSeries, NotOpen, NotExecuted, Full}
 use Rattle.layout.specs.Clocks.{clock}
 use Rattle.layout.specs.Demand2.{First}
-use Rattle.layout.specs.Layout.{part, types, denominators}
+use Rattle.layout.specs.Layout.{part, timestamp, types, denominators}
 use Rattle.layout.specs.Line.{Said, endOfDay, line, outAfter}
 use Rattle.layout.specs.Line.{read as readLine, write as writeLine}
+use Rattle.layout.specs.Rule.{num, lawful}
 use Rattle.layout.specs.Strikes.{unit, lawfulStrike, strikeValue, formUnder, strikeForm}
 use Rattle.layout.specs.declared.Clock.{Clock}
 use Rattle.layout.specs.declared.Record.{Record}
@@ -118,7 +119,7 @@ strike-form-told v = under-told 69 v (under-told 68 v (under-told 67 v (under-to
 
 clock-told : (ms : ℕ) → Told (clock ms)
 unfolding clock
-clock-told ms = both Told (leb ms 86399999) (given _) (field 1 refl)
+clock-told ms = both Told (lawful timestamp 8 (num ms)) (given _) (field 1 refl)
 
 make-told : (before : List ℕ) → Told (makeAnswer before)
 make-told before =

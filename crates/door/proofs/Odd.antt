@@ -10,8 +10,7 @@ use lib.ListN.{length, getD}
 use Rattle.cell.specs.Cells.{le, isZero}
 use Rattle.field.specs.Byte.{all}
 use Rattle.field.specs.Kept.{member}
-use Rattle.layout.specs.Layout.{part, types}
-use Rattle.line.specs.Groups.{isTrade}
+use Rattle.layout.specs.Layout.{isTrade, part, types}
 use Rattle.door.specs.Images.{oddId, oddLiquidity, unmeant}
 
 pub odd-liquidity-is : (b : List ℕ) (t : Bool) → t ≡ isTrade (getD b 8 0) → (not t && not (eqb (getD b 15 0) 32)) ≡ oddLiquidity b

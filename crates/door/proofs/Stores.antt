@@ -11,11 +11,11 @@ use lib.Seq.{sets, length-take-le}
 use Rattle.refusal.specs.Answer.{value}
 use Rattle.cell.specs.Cells.{leBytes}
 use Rattle.layout.specs.Line.{line, read, crlf, same}
+use Rattle.layout.specs.Records.{tradeOf}
 use Rattle.layout.specs.declared.Record.{Record}
 use Rattle.layout.specs.declared.Trade.{Trade}
 use Rattle.layout.proofs.Demand2.{demand2}
 use Rattle.layout.proofs.Rules.{both}
-use Rattle.line.specs.Writes.{tradeOf}
 use Rattle.door.specs.Images.{idsSet, earlySet, lateSet, imageOf}
 use Rattle.door.proofs.Cells.{cells, fitting, numbers-are-cells, cells-inside}
 

@@ -7,9 +7,9 @@ use lib.ListN.{length}
 use Rattle.refusal.specs.declared.Refusal.{Refusal}
 use Rattle.layout.specs.Line.{outAfter, write}
 use Rattle.layout.specs.declared.Record.{Record}
-use Rattle.line.specs.Promises.{wroteOf, Write}
-use Rattle.line.specs.declared.Written.{Written}
-use Rattle.line.specs.declared.Written.the-variants.{Done, Refused}
+use Rattle.writing.specs.Promises.{wroteOf, Write}
+use Rattle.writing.specs.declared.Written.{Written}
+use Rattle.writing.specs.declared.Written.the-variants.{Done, Refused}
 use Rattle.door.specs.Images.{recordIn, unmeant}
 use Rattle.door.specs.Promises.{writeAnswer, Writes}
 use Rattle.door.proofs.Answered.{codeFor, says-value, says-refusal}

@@ -8,13 +8,12 @@ use lib.Seq.{sets}
 use Rattle.cell.specs.Cells.{le, leBytes, isZero}
 use Rattle.field.specs.Byte.{all}
 use Rattle.field.specs.Kept.{member}
-use Rattle.layout.specs.Layout.{part, types}
+use Rattle.layout.specs.Layout.{isTrade, part, types}
 use Rattle.layout.specs.Line.{lineOf}
+use Rattle.layout.specs.Records.{tradeOf, recordFrom}
+use Rattle.layout.specs.declared.Numbers.{Numbers}
 use Rattle.layout.specs.declared.Record.{Record}
 use Rattle.layout.specs.declared.Trade.{Trade}
-use Rattle.line.specs.Groups.{isTrade, recordFrom}
-use Rattle.line.specs.Writes.{tradeOf}
-use Rattle.line.specs.declared.Numbers.{Numbers}
 
 -- each number stands at its place in the line, little end first
 abbrev pub numbersIn : List ℕ → Numbers

@@ -8,9 +8,9 @@ ghost use Rattle.refusal.specs.Answer.{value};
 ghost use Rattle.door.specs.Images.{earlySet, idsSet, imageOf, lateSet, numbersIn, oddId, oddLiquidity, recordIn, unmeant as Images·unmeant};
 use field::kept;
 use field::put;
+use layout::Numbers;
 use layout::Record;
 use layout::Trade;
-use line::Numbers;
 
 pub const RECORD: usize = 138;
 
@@ -21,7 +21,7 @@ pub fn unmeant(b: &[u8]) -> u8
     if b.len() != RECORD {
         return 24;
     }
-    if !kept::member(b[8], b"AEXCUR") {
+    if !kept::member(b[8], &rule::TYPES) {
         return 2;
     }
     if odd_liquidity(b) {
@@ -43,7 +43,7 @@ fn odd_liquidity(b: &[u8]) -> bool
     requires { ⌜ length (now b) ≡ 138 ⌝ }
     ensures { λ r. ⌜ r ≡ oddLiquidity (now (b .entry)) ⌝ }
 {
-    !line::is_trade(b[8]) & (b[15] != b' ')
+    !rule::is_trade(b[8]) & (b[15] != b' ')
 }
 
 fn odd_id(b: &[u8], at: usize) -> bool
@@ -51,7 +51,7 @@ fn odd_id(b: &[u8], at: usize) -> bool
     requires { ⌜ at + 9 ≤ 138 ⌝ }
     ensures { λ r. ⌜ r ≡ oddId (now (b .entry)) at ⌝ }
 {
-    (b[at + 8] != 0) | (!line::is_trade(b[8]) & (cell::get(b, at, 8) != 0))
+    (b[at + 8] != 0) | (!rule::is_trade(b[8]) & (cell::get(b, at, 8) != 0))
 }
 
 fn numbers(b: &[u8]) -> Numbers
@@ -88,7 +88,7 @@ pub fn store(r: Record, piece: &[u8], out: &mut [u8])
     put_early(r, out);
     put_late(r, out);
     let event = r.event;
-    put_ids(line::trade_of(event), out);
+    put_ids(writing::trade_of(event), out);
 }
 
 // The numbers go in three lots, since the prover reads only so many facts of one function.

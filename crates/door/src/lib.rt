@@ -12,13 +12,13 @@ use line::Outcome;
 use line::StrikeForm;
 use line::StrikeValue;
 use line::TimeOfDay;
-use line::Written;
 use piece::Ahead;
 use refusal::Refusal;
 use sheet::Writing;
 use table::Found;
 use table::Made;
 use table::damage;
+use writing::Written;
 
 const DONE: u32 = 0;
 
@@ -65,7 +65,7 @@ pub extern "C" fn skurzelt_write(record: &[u8], line: &mut [u8]) -> u32
     if odd != 0 {
         return code(Refusal::Field(odd));
     }
-    match line::write(image::load(record), line) {
+    match writing::write(image::load(record), line) {
         Written::Done => DONE,
         Written::Refused(x) => code(x),
     }

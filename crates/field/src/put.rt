@@ -1,7 +1,8 @@
 // A field written into a lent buffer, at its place.
-ghost use Prim.Native.Nat.{_+_, _≤_, _%_};
+ghost use Prim.Native.Nat.{_+_, _≤_, _<_, _%_};
 ghost use mathlib.Core.Path.{_≡_};
 ghost use mathlib.Core.Bool.{cond};
+ghost use mathlib.Core.List.{[], _∷_};
 ghost use lib.Dec.{eqb};
 ghost use lib.ListN.{length};
 ghost use lib.Seq.{sets};
@@ -44,6 +45,13 @@ pub fn run(out: &mut [u8], at: usize, s: &[u8])
         out[at + i] = s[i];
         i += 1;
     }
+}
+
+pub fn byte(out: &mut [u8], at: usize, b: u8)
+    requires { ⌜ at < length (now out) ⌝ }
+    ensures { λ _. ⌜ now (out .exit) ≡ sets (now (out .entry)) at (b ∷ []) ⌝ }
+{
+    out[at] = b;
 }
 
 pub fn price(out: &mut [u8], at: usize, width: usize, v: u64)

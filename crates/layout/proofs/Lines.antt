@@ -3,7 +3,7 @@ use Prim.Native.Nat.{ℕ, _≤_}
 use native.Mathlib.Nat.{add-zero}
 use native.Mathlib.Omega.{arith}
 use mathlib.Core.Path.{_≡_, refl, sym, ap, ap₂, subst, subst₂, _∙_}
-use mathlib.Core.Bool.{Bool, true, false, cond, _||_, false≢true}
+use mathlib.Core.Bool.{Bool, true, false, cond, false≢true}
 use mathlib.Core.List.{List, [], _∷_, _++_}
 use borrow.Author.Tests.{eqb-true}
 use lib.Dec.{eqb}
@@ -13,10 +13,10 @@ use Rattle.field.specs.Byte.{isOf, all}
 use Rattle.field.specs.Kept.{member}
 use Rattle.field.specs.declared.Class.the-variants.{Printable}
 use Rattle.layout.specs.Demand2.{rowAt, isGot, keeps, holds, LawfulLine, LawfulRecord}
-use Rattle.layout.specs.Layout.{Row, layout, types, liquidities, denominators, part, firstUnlawful, writeRows, placed, fitting}
+use Rattle.layout.specs.Layout.{Row, layout, types, liquidities, denominators, isTrade, idNumber, part, firstUnlawful, writeRows, placed, fitting}
 use Rattle.layout.specs.Line.{crlf, same, isLine, printable, rowsOf, rowsFor, lineOf}
 use Rattle.layout.specs.Records.{typeOf, fieldsOf, recordOf, runOf, byteAt}
-use Rattle.layout.specs.Rule.{Rule, number, code, kept, text, blank, Value, gotRun, reads, fits}
+use Rattle.layout.specs.Rule.{Rule, code, kept, text, blank, Value, gotRun, reads, fits}
 use Rattle.layout.specs.declared.Record.{Record}
 use Rattle.layout.proofs.First.{first-every, every-first}
 use Rattle.layout.proofs.Rules.{both}
@@ -35,9 +35,9 @@ placed-layout t d = refl
 
 fitting-layout : (t d : ℕ) → fitting (layout t d) ≡ true
 fitting-layout t d = rw (
-  fits-either (eqb t 69 || eqb t 67) (code liquidities) (kept blank) 1 refl refl,
+  fits-either (isTrade t) (code liquidities) (kept blank) 1 refl refl,
   fits-either (eqb t 85) (kept text) (kept blank) 20 refl refl,
-  fits-either (eqb t 69 || eqb t 67) (number 0 999999999) (kept blank) 9 refl refl,
+  fits-either (isTrade t) idNumber (kept blank) 9 refl refl,
 )
 
 tiles-layout : (t d : ℕ) → tiles 1 0 (layout t d) ≡ true

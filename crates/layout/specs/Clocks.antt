@@ -1,8 +1,9 @@
 -- The time of day that a timestamp means.
 use Prim.Native.Nat.{ℕ, _/_, _%_}
 use mathlib.Core.Bool.{cond}
-use lib.Dec.{leb}
 use Rattle.refusal.specs.Answer.{Answer, value, refused}
+use Rattle.layout.specs.Layout.{timestamp}
+use Rattle.layout.specs.Rule.{num, lawful}
 use Rattle.layout.specs.declared.Clock.{Clock}
 
 -- 01, What is bought: milliseconds hold
@@ -11,4 +12,4 @@ timeOf ms = record { hours = ms / 3600000; minutes = ms / 60000 % 60; seconds = 
 
 -- 01, The line: 1
 unfoldable pub clock : ℕ → Answer Clock
-clock ms = cond (leb ms 86399999) (value (timeOf ms)) (refused 3 1)
+clock ms = cond (lawful timestamp 8 (num ms)) (value (timeOf ms)) (refused 3 1)

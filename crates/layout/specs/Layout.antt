@@ -43,9 +43,12 @@ months = 65 ∷ 66 ∷ 67 ∷ 68 ∷ 69 ∷ 70 ∷ 71 ∷ 72 ∷ 73 ∷ 74 ∷ 7
 abbrev pub denominators : List ℕ
 denominators = 65 ∷ 66 ∷ 67 ∷ 68 ∷ 69 ∷ []
 
--- on E and C
+-- Liquidity, Match Id and Cross Id stand on E and C
+abbrev pub isTrade : ℕ → Bool
+isTrade t = eqb t 69 || eqb t 67
+
 abbrev pub onTrade : ℕ → Rule → Rule → Rule
-onTrade t a b = cond (eqb t 69 || eqb t 67) a b
+onTrade t a b = cond (isTrade t) a b
 
 -- on U
 abbrev pub onReplace : ℕ → Rule → Rule → Rule
@@ -55,10 +58,23 @@ onReplace t a b = cond (eqb t 85) a b
 abbrev pub leastStrike : ℕ → ℕ
 leastStrike d = cond (eqb d 69) 1 100000
 
+abbrev pub strikeUnder : ℕ → Rule
+strikeUnder d = digits (leastStrike d) 999999
+
+abbrev pub timestamp : Rule
+timestamp = number 0 86399999
+
+-- of a match or a cross
+abbrev pub idNumber : Rule
+idNumber = number 0 999999999
+
+abbrev pub tradeId : ℕ → Rule
+tradeId t = onTrade t idNumber (kept blank)
+
 -- 01, The line: the table, for a type t and a denominator d
 abbrev pub layout : ℕ → ℕ → List Row
 layout t d =
-    row 1 0 8 (number 0 86399999)
+    row 1 0 8 timestamp
     ∷ row 2 8 1 (code types)
     ∷ row 3 9 4 (kept text)
     ∷ row 4 13 1 (code capacities)
@@ -78,10 +94,10 @@ layout t d =
     ∷ row 18 99 2 (digits 1 31)
     ∷ row 19 101 2 (digits 0 99)
     ∷ row 20 103 1 (code denominators)
-    ∷ row 21 104 6 (digits (leastStrike d) 999999)
+    ∷ row 21 104 6 (strikeUnder d)
     ∷ row 22 110 10 price
-    ∷ row 23 120 9 (onTrade t (number 0 999999999) (kept blank))
-    ∷ row 24 129 9 (onTrade t (number 0 999999999) (kept blank))
+    ∷ row 23 120 9 (tradeId t)
+    ∷ row 24 129 9 (tradeId t)
     ∷ []
 
 -- the bytes of a field

@@ -4,9 +4,11 @@ use mathlib.Core.Bool.{cond}
 use mathlib.Core.List.{List, [], _∷_}
 use lib.Dec.{eqb}
 use lib.ListN.{getD, replicate}
+use Rattle.layout.specs.Layout.{part}
 use Rattle.layout.specs.Rule.{Value, num, run}
 use Rattle.layout.specs.declared.Event.{Event}
 use Rattle.layout.specs.declared.Event.the-variants.{Accepted, Executed, Cancelled, Broken, Replaced, Repriced}
+use Rattle.layout.specs.declared.Numbers.{Numbers}
 use Rattle.layout.specs.declared.Record.{Record}
 use Rattle.layout.specs.declared.Trade.{Trade}
 
@@ -23,6 +25,18 @@ abbrev pub eventOf : ℕ → Trade → Event
 eventOf t trade =
     cond (eqb t 65) Accepted
     (cond (eqb t 69) (Executed trade) (cond (eqb t 88) Cancelled (cond (eqb t 67) (Broken trade) (cond (eqb t 85) Replaced Repriced))))
+
+abbrev pub noTrade : Trade
+noTrade = record { liquidity = 32; «match_id» = 0; «cross_id» = 0 }
+
+-- what the fields that stand on E and C hold: where an event carries no trade, a blank and ids of 0
+abbrev pub tradeOf : Event → Trade
+tradeOf Accepted = noTrade
+tradeOf (Executed t) = t
+tradeOf Cancelled = noTrade
+tradeOf (Broken t) = t
+tradeOf Replaced = noTrade
+tradeOf Repriced = noTrade
 
 -- a code
 abbrev pub one : ℕ → Value
@@ -127,4 +141,34 @@ recordOf vs =
       denominator = byteAt vs 19;
       strike = numAt vs 20;
       price = numAt vs 21;
+    }
+
+abbrev pub eventFrom : Numbers → List ℕ → Event
+eventFrom n s = eventOf (getD s 8 0) (record { liquidity = getD s 15 0; «match_id» = n .«match_id»; «cross_id» = n .«cross_id» })
+
+-- the record of a line whose fields all keep their rules
+abbrev pub recordFrom : Numbers → List ℕ → Record
+recordFrom n s =
+    record {
+      timestamp = n .timestamp;
+      event = eventFrom n s;
+      firm = part s 9 4;
+      capacity = getD s 13 0;
+      position = getD s 14 0;
+      account = part s 16 4;
+      member = part s 20 5;
+      clearing = part s 25 5;
+      source = part s 30 6;
+      token = part s 36 20;
+      replaced = part s 56 20;
+      reference = part s 76 9;
+      side = getD s 85 0;
+      contracts = n .contracts;
+      root = part s 92 6;
+      month = getD s 98 0;
+      date = n .date;
+      year = n .year;
+      denominator = getD s 103 0;
+      strike = n .strike;
+      price = n .price;
     }

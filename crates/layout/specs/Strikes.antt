@@ -1,10 +1,11 @@
 -- 01, The line, Strike: its value in hundred-thousandths of a dollar, and the form of a value.
 use Prim.Native.Nat.{ℕ, _*_, _/_, _%_}
 use mathlib.Core.Bool.{Bool, cond, _&&_}
-use lib.Dec.{leb, eqb}
+use lib.Dec.{eqb}
 use Rattle.field.specs.Kept.{member}
 use Rattle.refusal.specs.Answer.{Answer, value, refused}
-use Rattle.layout.specs.Layout.{denominators, leastStrike}
+use Rattle.layout.specs.Layout.{denominators, strikeUnder}
+use Rattle.layout.specs.Rule.{num, lawful}
 use Rattle.layout.specs.declared.Strike.{Strike}
 
 -- 10,000 (A), 1,000 (B), 100 (C), 10 (D) or 1 (E)
@@ -13,7 +14,7 @@ unit d = cond (eqb d 65) 10000 (cond (eqb d 66) 1000 (cond (eqb d 67) 100 (cond 
 
 -- six digits, under A to D the first not 0, under E not all 0
 abbrev pub lawfulStrike : ℕ → ℕ → Bool
-lawfulStrike d n = leb (leastStrike d) n && leb n 999999
+lawfulStrike d n = lawful (strikeUnder d) 6 (num n)
 
 -- the six digits as a number times the unit
 unfoldable pub strikeValue : ℕ → ℕ → Answer ℕ

@@ -47,6 +47,18 @@ pub struct Record {
     pub price: u64,
 }
 
+// The numbers of a line, as far as its fields were read; the rest is 0.
+pub struct Numbers {
+    pub timestamp: u64,
+    pub contracts: u64,
+    pub date: u64,
+    pub year: u64,
+    pub strike: u64,
+    pub price: u64,
+    pub match_id: u64,
+    pub cross_id: u64,
+}
+
 // A strike as a line has it.
 pub struct Strike {
     pub denominator: u8,

@@ -1,21 +1,44 @@
--- A record is what its parts are.
+-- A record is what its parts are, and an event what its type is.
 use Prim.Native.Nat.{ℕ}
 use mathlib.Core.Path.{_≡_, sym, ap, _∙_}
 use mathlib.Core.List.{List}
 use native.Mathlib.Nat.{add-zero}
+use borrow.Author.Tests.{ne-eqb}
 use lib.Dec.{lit<}
 use lib.ListN.{getD, drop}
 use lib.Seq.{getD-take, getD-drop}
-use Rattle.layout.specs.Layout.{part}
-use Rattle.layout.specs.Records.{eventOf, recordOf, numOf}
+use Rattle.layout.specs.Layout.{isTrade, part}
+use Rattle.layout.specs.Records.{eventOf, recordOf, numOf, eventFrom, recordFrom}
 use Rattle.layout.specs.declared.Event.{Event}
+use Rattle.layout.specs.declared.Event.the-variants.{Accepted, Executed, Cancelled, Broken, Replaced, Repriced}
+use Rattle.layout.specs.declared.Numbers.{Numbers}
 use Rattle.layout.specs.declared.Record.{Record}
-use Rattle.line.specs.Groups.{isTrade, idValue, valuesOf, eventFrom, partiesOf, namesOf, recordFrom, readingFrom}
+use Rattle.layout.specs.declared.Trade.{Trade}
+use Rattle.rule.specs.ByType.{idValue}
+use Rattle.line.specs.Groups.{valuesOf, partiesOf, namesOf, readingFrom}
 use Rattle.line.specs.declared.Names.{Names}
-use Rattle.line.specs.declared.Numbers.{Numbers}
 use Rattle.line.specs.declared.Outcome.the-variants.{Line}
 use Rattle.line.specs.declared.Parties.{Parties}
 use Rattle.line.specs.declared.Reading.{Reading}
+
+module _ (t : ℕ) (trade : Trade) where
+  pub is-a : t ≡ 65 → Accepted ≡ eventOf t trade
+  is-a e = rw e
+
+  pub is-e : t ≡ 69 → Executed trade ≡ eventOf t trade
+  is-e e = rw e
+
+  pub is-x : t ≡ 88 → Cancelled ≡ eventOf t trade
+  is-x e = rw e
+
+  pub is-c : t ≡ 67 → Broken trade ≡ eventOf t trade
+  is-c e = rw e
+
+  pub is-u : t ≡ 85 → Replaced ≡ eventOf t trade
+  is-u e = rw e
+
+  pub is-r : (t ≡ 65 → ⊥) → (t ≡ 69 → ⊥) → (t ≡ 88 → ⊥) → (t ≡ 67 → ⊥) → (t ≡ 85 → ⊥) → Repriced ≡ eventOf t trade
+  is-r a e x c u = simp (ne-eqb t 65 a, ne-eqb t 69 e, ne-eqb t 88 x, ne-eqb t 67 c, ne-eqb t 85 u)
 
 abbrev pub assembled : Numbers → List ℕ → Event → Parties → Names → Record
 assembled n s e p q =

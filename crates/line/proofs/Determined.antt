@@ -4,7 +4,7 @@ use mathlib.Core.Path.{_≡_, sym, ap, ap₂, _∙_}
 use mathlib.Core.List.{List}
 use Rattle.refusal.proofs.OneNumber.{one-refusal}
 use Rattle.layout.specs.declared.Record.{Record}
-use Rattle.line.specs.Promises.{saidOf, unusedOf, Read, wroteOf, Write, hundredThousandths, StrikeValued, formSaid, StrikeFormed, timeSaid, Clocked}
+use Rattle.line.specs.Promises.{saidOf, unusedOf, Read, hundredThousandths, StrikeValued, formSaid, StrikeFormed, timeSaid, Clocked}
 use Rattle.line.specs.declared.Outcome.{Outcome}
 use Rattle.line.specs.declared.Outcome.the-variants.{EndOfDay, Line, Refused}
 use Rattle.line.specs.declared.Reading.{Reading}
@@ -14,8 +14,6 @@ use Rattle.line.specs.declared.StrikeValue.{StrikeValue}
 use Rattle.line.specs.declared.StrikeValue.the-variants.{Value, Refused as StrikeValue·Refused}
 use Rattle.line.specs.declared.TimeOfDay.{TimeOfDay}
 use Rattle.line.specs.declared.TimeOfDay.the-variants.{Time, Refused as TimeOfDay·Refused}
-use Rattle.line.specs.declared.Written.{Written}
-use Rattle.line.specs.declared.Written.the-variants.{Done, Refused as Written·Refused}
 
 abbrev reading : Outcome → Record → Reading
 reading o l = record { outcome = o; line = l }
@@ -33,15 +31,6 @@ one-reading (Refused x) (Refused y) l m e u = ap₂ reading (ap Refused (one-ref
 
 pub read-determined : (s : List ℕ) (r q : Reading) → Read s r → Read s q → r ≡ q
 read-determined s r q a b = one-reading (r .outcome) (q .outcome) (r .line) (q .line) (a .said ∙ sym (b .said)) (a .unused ∙ sym (b .unused))
-
-one-written : (x y : Written) → wroteOf x ≡ wroteOf y → x ≡ y
-one-written Done Done e = cc
-one-written Done (Written·Refused y) e = cc
-one-written (Written·Refused x) Done e = cc
-one-written (Written·Refused x) (Written·Refused y) e = ap Written·Refused (one-refusal x y (cc) (cc))
-
-pub write-determined : (r : Record) (before : List ℕ) (x y : Written) (a b : List ℕ) → Write r before x a → Write r before y b → (x ≡ y) × (a ≡ b)
-write-determined r before x y a b p q = (one-written x y (p .said ∙ sym (q .said)), p .out ∙ sym (q .out))
 
 one-value : (x y : StrikeValue) → hundredThousandths x ≡ hundredThousandths y → x ≡ y
 one-value (Value v) (Value w) e = cc

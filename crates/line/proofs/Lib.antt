@@ -1,11 +1,5 @@
-pub mod Answers
 pub mod Built
-pub mod Checks
 pub mod Determined
-pub mod Events
-pub mod Fields
-pub mod Puts
+pub mod Forms
 pub mod Readings
 pub mod Steps
-pub mod Forms
-pub mod Writings

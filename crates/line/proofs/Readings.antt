@@ -1,11 +1,13 @@
 -- The ways out of reading a piece, each as the promise says it.
 use Prim.Native.Nat.{ℕ, _-_, _≤_}
 use mathlib.Core.Path.{_≡_, refl, sym, _∙_}
-use mathlib.Core.Bool.{Bool, true, false}
-use mathlib.Core.List.{List, []}
+use mathlib.Core.Bool.{Bool, true, false, _&&_, and-true, and-false}
+use mathlib.Core.List.{List, [], _∷_}
 use native.Mathlib.Nat.{le-of-eq}
+use native.Mathlib.Omega.{arith}
 use borrow.Author.Tests.{eq-eqb, ne-eqb}
-use lib.ListN.{length, take, drop, length-drop}
+use lib.Dec.{eqb}
+use lib.ListN.{length, getD, take, drop, length-drop}
 use lib.Seq.{take-all}
 use Rattle.field.specs.Byte.{isOf, all}
 use Rattle.field.specs.declared.Class.the-variants.{Printable}
@@ -17,6 +19,18 @@ use Rattle.line.specs.Groups.{readingOf, readingFrom, noNumbers, refused
 use Rattle.line.specs.Promises.{Read, blankRecord, saidOf, unusedOf}
 use Rattle.line.specs.declared.Outcome.the-variants.{EndOfDay}
 use Rattle.line.specs.declared.Reading.{Reading}
+
+pub not-two : (s : List ℕ) → (length s ≡ 2 → ⊥) → false ≡ same s crlf
+not-two [] h = refl
+not-two (a ∷ []) h = sym (and-false (eqb a 13))
+not-two (a ∷ b ∷ []) h = absurd (h refl)
+not-two (a ∷ b ∷ c ∷ s) h = sym (rw and-false (and-false (eqb a 13)))
+
+pub two-bytes : (s : List ℕ) → length s ≡ 2 → (eqb (getD s 0 0) 13 && eqb (getD s 1 0) 10) ≡ same s crlf
+two-bytes [] h = absurd (omega arith)
+two-bytes (a ∷ []) h = absurd (omega arith)
+two-bytes (a ∷ b ∷ []) h = rw and-true
+two-bytes (a ∷ b ∷ c ∷ s) h = absurd (omega arith)
 
 pub end-of-day : (s : List ℕ) (r : Record) (b : Bool) → b ≡ same s crlf → b ≡ true → r ≡ blankRecord → Read s (record { outcome = EndOfDay; line = r })
 unfolding read

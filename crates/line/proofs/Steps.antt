@@ -1,13 +1,12 @@
 -- Reading one field after another: what a field's answer makes of the reading.
 use Prim.Native.Nat.{ℕ, suc, _<_}
 use mathlib.Core.Path.{_≡_, refl, sym, ap, _∙_}
-use mathlib.Core.Bool.{Bool, true, false, cond}
+use mathlib.Core.Bool.{Bool, true, false}
 use mathlib.Core.List.{List, [], _∷_, _++_}
-use mathlib.Core.Logic.{_⊎_, inl, inr}
 use native.Mathlib.Omega.{arith}
 use lib.ListN.{getD, take, drop}
 use lib.Seq.{take-suc, drop-cons}
-use Rattle.field.specs.Kept.{isCode, isBlank}
+use Rattle.field.specs.Kept.{isCode}
 use Rattle.field.specs.Kept.{kept as keptAnswer}
 use Rattle.field.specs.declared.Bytes.{Bytes}
 use Rattle.field.specs.declared.Bytes.the-variants.{Lawful, Unlawful}
@@ -16,10 +15,9 @@ use Rattle.field.specs.declared.Number.the-variants.{Value as Number·Value, Ba
 use Rattle.refusal.specs.declared.Refusal.the-variants.{Field}
 use Rattle.layout.specs.Layout.{Row, row, part, breaks, readRows, onGot}
 use Rattle.layout.specs.Line.{rowsOf}
-use Rattle.layout.specs.Records.{numOf}
-use Rattle.layout.specs.Rule.{Rule, number, price, code, kept, blank, Kind, isKind, Value, num, run, Got, got, broken, reads, gotNumber, gotRun}
-use Rattle.line.specs.Groups.{keptGot, keptOn, idOn, idValue, valuesOf, readingOf, readingFrom, refusedReading}
-use Rattle.line.specs.declared.Numbers.{Numbers}
+use Rattle.layout.specs.Rule.{code, kept, blank, Kind, isKind, Value, num, run, Got, got, broken, reads, gotNumber, gotRun}
+use Rattle.line.specs.Groups.{valuesOf, readingOf, readingFrom, refusedReading}
+use Rattle.layout.specs.declared.Numbers.{Numbers}
 use Rattle.line.specs.declared.Reading.{Reading}
 
 -- the row, counted from 0, and its value
@@ -81,61 +79,6 @@ value-good n x v e l = ap gotNumber (sym e ∙ l)
 
 pub value-bad : (n x : Number) → x ≡ n → x ≡ Bad → gotNumber n ≡ broken
 value-bad n x e l = ap gotNumber (sym e ∙ l)
-
--- a field that stands on some types only; both its rules keep bytes
-got-lawful : (g : Got) (b : List ℕ) → (g ≡ got (run b)) ⊎ (g ≡ broken) → keptGot g ≡ Lawful → g ≡ got (run b)
-got-lawful g b (inl e) l = e
-got-lawful g b (inr e) l = let z : _≡_ {A = ℕ} 0 1 = cc in absurd (omega arith)
-
-got-unlawful : (g : Got) → keptGot g ≡ Unlawful → g ≡ broken
-got-unlawful (got v) l = let z : _≡_ {A = ℕ} 0 1 = cc in absurd (omega arith)
-got-unlawful broken l = refl
-
-run-or-not : (a : Bool) (b : List ℕ) → (gotRun a b ≡ got (run b)) ⊎ (gotRun a b ≡ broken)
-run-or-not true b = inl refl
-run-or-not false b = inr refl
-
-code-or-blank : (on : Bool) (codes b : List ℕ) → (reads (cond on (code codes) (kept blank)) b ≡ got (run b)) ⊎ (reads (cond on (code codes) (kept blank)) b ≡ broken)
-code-or-blank true codes b = run-or-not (isCode codes b) b
-code-or-blank false codes b = run-or-not (isBlank b) b
-
-kind-or-blank : (on : Bool) (k : Kind) (b : List ℕ) → (reads (cond on (kept k) (kept blank)) b ≡ got (run b)) ⊎ (reads (cond on (kept k) (kept blank)) b ≡ broken)
-kind-or-blank true k b = run-or-not (isKind k b) b
-kind-or-blank false k b = run-or-not (isBlank b) b
-
-pub code-on-good : (on : Bool) (codes b : List ℕ) (x : Bytes) → x ≡ keptOn on (code codes) b → x ≡ Lawful → reads (cond on (code codes) (kept blank)) b ≡ got (run b)
-code-on-good on codes b x e l = got-lawful _ b (code-or-blank on codes b) (sym e ∙ l)
-
-pub kind-on-good : (on : Bool) (k : Kind) (b : List ℕ) (x : Bytes) → x ≡ keptOn on (kept k) b → x ≡ Lawful → reads (cond on (kept k) (kept blank)) b ≡ got (run b)
-kind-on-good on k b x e l = got-lawful _ b (kind-or-blank on k b) (sym e ∙ l)
-
-pub on-bad : (on : Bool) (rule : Rule) (b : List ℕ) (x : Bytes) → x ≡ keptOn on rule b → x ≡ Unlawful → reads (cond on rule (kept blank)) b ≡ broken
-on-bad on rule b x e l = got-unlawful _ (sym e ∙ l)
-
-pub id-good : (on : Bool) (b : List ℕ) (x : Number) (v : ℕ) → x ≡ idOn on b → x ≡ Number·Value v → reads (cond on (number 0 999999999) (kept blank)) b ≡ got (idValue on v b)
-id-good true b x v e l = ap gotNumber (sym e ∙ l)
-id-good false b x v e l = by-test (isBlank b) (sym e ∙ l)
-  where
-    by-test : (a : Bool) → cond a (Number·Value 0) Bad ≡ Number·Value v → gotRun a b ≡ got (run b)
-    by-test true q = refl
-    by-test false q = let z : _≡_ {A = ℕ} 0 1 = cc in absurd (omega arith)
-
-pub id-bad : (on : Bool) (b : List ℕ) (x : Number) → x ≡ idOn on b → x ≡ Bad → reads (cond on (number 0 999999999) (kept blank)) b ≡ broken
-id-bad true b x e l = ap gotNumber (sym e ∙ l)
-id-bad false b x e l = by-test (isBlank b) (sym e ∙ l)
-  where
-    by-test : (a : Bool) → cond a (Number·Value 0) Bad ≡ Bad → gotRun a b ≡ broken
-    by-test true q = let z : _≡_ {A = ℕ} 0 1 = cc in absurd (omega arith)
-    by-test false q = refl
-
--- a missing id is 0
-pub id-number : (on : Bool) (b : List ℕ) (x : Number) (v : ℕ) → x ≡ idOn on b → x ≡ Number·Value v → v ≡ numOf (idValue on v b)
-id-number true b x v e l = refl
-id-number false b x v e l = by-test (isBlank b) (sym e ∙ l)
-  where
-    by-test : (a : Bool) → cond a (Number·Value 0) Bad ≡ Number·Value v → v ≡ 0
-    by-test true q = cc
-    by-test false q = let z : _≡_ {A = ℕ} 0 1 = cc in absurd (omega arith)
 
 -- ---- the numbers of a line as they are read
 

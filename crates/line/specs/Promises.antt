@@ -1,12 +1,12 @@
--- What each public entry of this crate promises: its answer in the paper's numbers and values, and each lent byte.
+-- What each public entry of this crate promises: its answer in the paper's numbers and values.
 use Prim.Native.Nat.{ℕ}
 use mathlib.Core.Path.{_≡_}
 use mathlib.Core.List.{List}
 use lib.ListN.{replicate}
 use Rattle.refusal.specs.Answer.{Answer, value, refusedBy}
 use Rattle.layout.specs.Clocks.{clock}
-use Rattle.layout.specs.Line.{Said, line, endOfDay, outAfter}
-use Rattle.layout.specs.Line.{read as readLine, write as writeLine}
+use Rattle.layout.specs.Line.{Said, line, endOfDay}
+use Rattle.layout.specs.Line.{read as readLine}
 use Rattle.layout.specs.Strikes.{strikeValue, strikeForm}
 use Rattle.layout.specs.declared.Clock.{Clock}
 use Rattle.layout.specs.declared.Strike.{Strike}
@@ -21,8 +21,6 @@ use Rattle.line.specs.declared.StrikeValue.{StrikeValue}
 use Rattle.line.specs.declared.StrikeValue.the-variants.{Value, Refused as StrikeValue·Refused}
 use Rattle.line.specs.declared.TimeOfDay.{TimeOfDay}
 use Rattle.line.specs.declared.TimeOfDay.the-variants.{Time, Refused as TimeOfDay·Refused}
-use Rattle.line.specs.declared.Written.{Written}
-use Rattle.line.specs.declared.Written.the-variants.{Done, Refused as Written·Refused}
 
 -- what stands beside an outcome that is no line
 unfoldable pub blankRecord : Record
@@ -67,16 +65,6 @@ unusedOf (Refused x) r = r
 pub record Read (s : List ℕ) (r : Reading) : Type 0 where
   pub said : saidOf (r .outcome) (r .line) ≡ readLine s
   pub unused : unusedOf (r .outcome) (r .line) ≡ blankRecord
-
--- the answer of a writing in the paper's terms
-abbrev pub wroteOf : Written → Answer (Unit {0})
-wroteOf Done = value tt
-wroteOf (Written·Refused x) = refusedBy x
-
--- `line::write`: `after` is the lent buffer when it returns
-pub record Write (r : Record) (before : List ℕ) (x : Written) (after : List ℕ) : Type 0 where
-  pub said : wroteOf x ≡ writeLine r before
-  pub out : after ≡ outAfter (writeLine r before) r before
 
 abbrev pub hundredThousandths : StrikeValue → Answer ℕ
 hundredThousandths (Value v) = value v

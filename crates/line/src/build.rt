@@ -2,14 +2,14 @@
 ghost use Prim.Native.Nat.{_≤_};
 ghost use mathlib.Core.Path.{_≡_};
 ghost use lib.ListN.{length};
-ghost use Rattle.layout.specs.Records.{eventOf};
-ghost use Rattle.line.specs.Groups.{recordFrom, eventFrom, partiesOf, namesOf};
+ghost use Rattle.layout.specs.Records.{eventOf, eventFrom, recordFrom};
+ghost use Rattle.line.specs.Groups.{partiesOf, namesOf};
 ghost use Rattle.line.specs.Promises.{blankRecord};
 use crate::Names;
-use crate::Numbers;
 use crate::Parties;
 use field::put;
 use layout::Event;
+use layout::Numbers;
 use layout::Record;
 use layout::Trade;
 

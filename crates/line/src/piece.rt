@@ -5,16 +5,15 @@ ghost use lib.ListN.{length};
 ghost use Rattle.layout.specs.Line.{same, crlf};
 ghost use Rattle.line.specs.Groups.{readingFrom, refusedReading, noNumbers};
 ghost use Rattle.line.specs.Promises.{Read};
-use crate::Numbers;
 use crate::Outcome;
 use crate::Reading;
 use crate::build;
-use crate::pick;
 use field::Bytes;
 use field::Class;
 use field::Number;
 use field::digits;
 use field::kept;
+use layout::Numbers;
 use refusal::Refusal;
 
 // A piece of any length and content. It is refused by the first rule that it breaks.
@@ -62,22 +61,22 @@ fn event_fields(s: &[u8]) -> Reading
     requires { ⌜ length (now s) ≡ 140 ⌝ }
     ensures { λ r. ⌜ r ≡ readingFrom 0 noNumbers (now (s .entry)) ⌝ }
 {
-    let Number::Value(timestamp) = digits::number(&s[0..8], 0, 86399999) else {
+    let Number::Value(timestamp) = digits::number(&s[0..8], 0, rule::LAST_TIMESTAMP) else {
         return refused(Refusal::Field(1));
     };
-    let Bytes::Lawful = kept::code(&s[8..9], b"AEXCUR") else {
+    let Bytes::Lawful = kept::code(&s[8..9], &rule::TYPES) else {
         return refused(Refusal::Field(2));
     };
     let Bytes::Lawful = kept::text(&s[9..13]) else {
         return refused(Refusal::Field(3));
     };
-    let Bytes::Lawful = kept::code(&s[13..14], b"CFMPBOJN") else {
+    let Bytes::Lawful = kept::code(&s[13..14], &rule::CAPACITIES) else {
         return refused(Refusal::Field(4));
     };
-    let Bytes::Lawful = kept::code(&s[14..15], b"OC") else {
+    let Bytes::Lawful = kept::code(&s[14..15], &rule::POSITIONS) else {
         return refused(Refusal::Field(5));
     };
-    let Bytes::Lawful = pick::liquidity(&s[15..16], pick::is_trade(s[8])) else {
+    let Bytes::Lawful = rule::liquidity(&s[15..16], rule::is_trade(s[8])) else {
         return refused(Refusal::Field(6));
     };
     account_fields(
@@ -115,7 +114,7 @@ fn account_fields(s: &[u8], n: Numbers) -> Reading
     let Bytes::Lawful = kept::text(&s[36..56]) else {
         return refused(Refusal::Field(11));
     };
-    let Bytes::Lawful = pick::replaced(&s[56..76], s[8] == b'U') else {
+    let Bytes::Lawful = rule::replaced(&s[56..76], s[8] == b'U') else {
         return refused(Refusal::Field(12));
     };
     order_fields(s, n)
@@ -129,16 +128,20 @@ fn order_fields(s: &[u8], n: Numbers) -> Reading
     let Bytes::Lawful = kept::hex(&s[76..85]) else {
         return refused(Refusal::Field(13));
     };
-    let Bytes::Lawful = kept::code(&s[85..86], b"BS") else {
+    let Bytes::Lawful = kept::code(&s[85..86], &rule::SIDES) else {
         return refused(Refusal::Field(14));
     };
-    let Number::Value(contracts) = digits::number(&s[86..92], 1, 999999) else {
+    let Number::Value(contracts) = digits::number(
+        &s[86..92],
+        rule::LEAST_CONTRACTS,
+        rule::MOST_CONTRACTS,
+    ) else {
         return refused(Refusal::Field(15));
     };
     let Bytes::Lawful = kept::text(&s[92..98]) else {
         return refused(Refusal::Field(16));
     };
-    let Bytes::Lawful = kept::code(&s[98..99], b"ABCDEFGHIJKLMNOPQRSTUVWX") else {
+    let Bytes::Lawful = kept::code(&s[98..99], &rule::MONTHS) else {
         return refused(Refusal::Field(17));
     };
     let mut m = n;
@@ -151,17 +154,20 @@ fn series_fields(s: &[u8], n: Numbers) -> Reading
     requires { ⌜ length (now s) ≡ 140 ⌝ }
     ensures { λ r. ⌜ r ≡ readingFrom 17 n (now (s .entry)) ⌝ }
 {
-    let Number::Value(date) = digits::exactly(&s[99..101], 1, 31) else {
+    let Number::Value(date) = digits::exactly(&s[99..101], rule::FIRST_DATE, rule::LAST_DATE) else {
         return refused(Refusal::Field(18));
     };
-    let Number::Value(year) = digits::exactly(&s[101..103], 0, 99) else {
+    let Number::Value(year) = digits::exactly(&s[101..103], 0, rule::LAST_YEAR) else {
         return refused(Refusal::Field(19));
     };
-    let Bytes::Lawful = kept::code(&s[103..104], b"ABCDE") else {
+    let Bytes::Lawful = kept::code(&s[103..104], &rule::DENOMINATORS) else {
         return refused(Refusal::Field(20));
     };
-    let Number::Value(strike) = digits::exactly(&s[104..110], pick::least_strike(s[103]), 999999)
-    else {
+    let Number::Value(strike) = digits::exactly(
+        &s[104..110],
+        rule::least_strike(s[103]),
+        rule::MOST_STRIKE,
+    ) else {
         return refused(Refusal::Field(21));
     };
     let Number::Value(price) = digits::price(&s[110..120]) else {
@@ -180,11 +186,11 @@ fn trade_fields(s: &[u8], n: Numbers) -> Reading
     requires { ⌜ length (now s) ≡ 140 ⌝ }
     ensures { λ r. ⌜ r ≡ readingFrom 22 n (now (s .entry)) ⌝ }
 {
-    let trade = pick::is_trade(s[8]);
-    let Number::Value(match_id) = pick::id(&s[120..129], trade) else {
+    let trade = rule::is_trade(s[8]);
+    let Number::Value(match_id) = rule::id(&s[120..129], trade) else {
         return refused(Refusal::Field(23));
     };
-    let Number::Value(cross_id) = pick::id(&s[129..138], trade) else {
+    let Number::Value(cross_id) = rule::id(&s[129..138], trade) else {
         return refused(Refusal::Field(24));
     };
     let mut m = n;

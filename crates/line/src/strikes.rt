@@ -4,7 +4,6 @@ ghost use Rattle.layout.specs.Strikes.{formUnder, unit as Strikes·unit};
 ghost use Rattle.line.specs.Promises.{StrikeValued, StrikeFormed, formSaid};
 use crate::StrikeForm;
 use crate::StrikeValue;
-use crate::lawful;
 use field::kept;
 use layout::Strike;
 use refusal::Refusal;
@@ -26,10 +25,10 @@ fn unit(denominator: u8) -> u64
 pub fn strike_value(denominator: u8, digits: u64) -> StrikeValue
     ensures { λ x. ⌜ StrikeValued denominator digits x ⌝ }
 {
-    if !kept::member(denominator, b"ABCDE") {
+    if !kept::member(denominator, &rule::DENOMINATORS) {
         return StrikeValue::Refused(Refusal::Field(20));
     }
-    if !lawful::strike(denominator, digits) {
+    if !rule::strike(denominator, digits) {
         return StrikeValue::Refused(Refusal::Field(21));
     }
     let value = digits * unit(denominator);
@@ -42,7 +41,7 @@ fn form_under(denominator: u8, value: u64, other: StrikeForm) -> StrikeForm
 {
     let unit = unit(denominator);
     let digits = value / unit;
-    if (value % unit == 0) & lawful::strike(denominator, digits) {
+    if (value % unit == 0) & rule::strike(denominator, digits) {
         return StrikeForm::Form(Strike {
             denominator,
             digits,

@@ -2,7 +2,7 @@
 use mathlib.Core.Path.{ap, _∙_}
 use borrow.Author.Needs.{needs}
 use denote.Ref.{now}
-use Rattle.line.specs.Groups.{recordFrom}
+use Rattle.layout.specs.Records.{recordFrom}
 use Rattle.door.specs.Images.{recordIn}
 use Rattle.door.proofs.image.load.Statement.{statement}
 use Rattle.door.proofs.image.load.Tie as tie

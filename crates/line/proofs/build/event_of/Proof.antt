@@ -1,5 +1,5 @@
 -- `line::build::event_of` meets its contract.
-use Rattle.line.proofs.Answers.{is-a, is-e, is-x, is-c, is-u, is-r}
+use Rattle.line.proofs.Built.{is-a, is-e, is-x, is-c, is-u, is-r}
 use Rattle.line.proofs.build.event_of.Statement.{statement}
 use Rattle.line.proofs.build.event_of.Tie as tie
 

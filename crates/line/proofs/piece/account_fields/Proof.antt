@@ -8,10 +8,11 @@ use lib.Dec.{lit<, eqb}
 use lib.ListN.{getD}
 use Rattle.layout.specs.Rule.{kept, text, textOrBlank, digitsOrBlank}
 use Rattle.layout.specs.Layout.{part}
-use Rattle.line.specs.declared.Numbers.{Numbers}
+use Rattle.layout.specs.declared.Numbers.{Numbers}
 use Rattle.line.specs.declared.Reading.{Reading}
 use Rattle.line.specs.Groups.{readingFrom}
-use Rattle.line.proofs.Steps.{past, stops, kind-good, kind-bad, kind-on-good, on-bad}
+use Rattle.line.proofs.Steps.{past, stops, kind-good, kind-bad}
+use Rattle.rule.proofs.Answers.{kind-on-good, on-bad}
 use Rattle.line.proofs.piece.account_fields.Statement.{statement}
 use Rattle.line.proofs.piece.account_fields.Tie as tie
 

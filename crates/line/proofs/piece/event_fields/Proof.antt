@@ -7,13 +7,16 @@ use borrow.Author.Needs.{needs}
 use denote.Ref.{now}
 use lib.Dec.{lit<}
 use lib.ListN.{getD}
-use Rattle.line.specs.Groups.{readingFrom, noNumbers, isTrade, keptOn}
+use Rattle.layout.specs.Layout.{isTrade}
+use Rattle.rule.specs.ByType.{keptOn}
+use Rattle.line.specs.Groups.{readingFrom, noNumbers}
 use Rattle.layout.specs.Rule.{number, code, text}
 use Rattle.layout.specs.Layout.{part, types, capacities, positions, liquidities}
 use Rattle.field.specs.Number.{number as readNumber}
-use Rattle.line.specs.declared.Numbers.{Numbers}
+use Rattle.layout.specs.declared.Numbers.{Numbers}
 use Rattle.line.specs.declared.Reading.{Reading}
-use Rattle.line.proofs.Steps.{withTimestamp, past, stops, kind-good, kind-bad, code-good, code-bad, value-good, value-bad, code-on-good, on-bad}
+use Rattle.line.proofs.Steps.{withTimestamp, past, stops, kind-good, kind-bad, code-good, code-bad, value-good, value-bad}
+use Rattle.rule.proofs.Answers.{code-on-good, on-bad}
 use Rattle.line.proofs.piece.event_fields.Statement.{statement}
 use Rattle.line.proofs.piece.event_fields.Tie as tie
 

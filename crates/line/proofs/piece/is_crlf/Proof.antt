@@ -1,7 +1,7 @@
 -- `line::piece::is_crlf` meets its contract.
 use borrow.Author.Needs.{needs}
 use denote.Ref.{now}
-use Rattle.line.proofs.Answers.{not-two, two-bytes}
+use Rattle.line.proofs.Readings.{not-two, two-bytes}
 use Rattle.line.proofs.piece.is_crlf.Statement.{statement}
 use Rattle.line.proofs.piece.is_crlf.Tie as tie
 

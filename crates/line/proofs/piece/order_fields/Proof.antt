@@ -8,7 +8,7 @@ use lib.Dec.{lit<}
 use Rattle.layout.specs.Rule.{number, code, text, hex}
 use Rattle.layout.specs.Layout.{part, sides, months}
 use Rattle.field.specs.Number.{number as readNumber}
-use Rattle.line.specs.declared.Numbers.{Numbers}
+use Rattle.layout.specs.declared.Numbers.{Numbers}
 use Rattle.line.specs.declared.Reading.{Reading}
 use Rattle.line.specs.Groups.{readingFrom}
 use Rattle.line.proofs.Steps.{withContracts, past, stops, kind-good, kind-bad, code-good, code-bad, value-good, value-bad}

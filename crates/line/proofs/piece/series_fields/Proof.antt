@@ -9,7 +9,7 @@ use lib.ListN.{getD}
 use Rattle.layout.specs.Rule.{price, code}
 use Rattle.layout.specs.Layout.{part, denominators, leastStrike}
 use Rattle.field.specs.Number.{digits as readDigits, price as readPrice}
-use Rattle.line.specs.declared.Numbers.{Numbers}
+use Rattle.layout.specs.declared.Numbers.{Numbers}
 use Rattle.line.specs.declared.Reading.{Reading}
 use Rattle.line.specs.Groups.{readingFrom}
 use Rattle.line.proofs.Steps.{withSeries, past, stops, code-good, code-bad, value-good, value-bad}

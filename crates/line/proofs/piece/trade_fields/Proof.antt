@@ -7,12 +7,15 @@ use borrow.Author.Needs.{needs}
 use denote.Ref.{now}
 use lib.Dec.{lit<}
 use lib.ListN.{getD}
-use Rattle.line.specs.Groups.{readingFrom, isTrade, idOn}
+use Rattle.layout.specs.Layout.{isTrade}
+use Rattle.rule.specs.ByType.{idOn}
+use Rattle.line.specs.Groups.{readingFrom}
 use Rattle.layout.specs.Layout.{part}
-use Rattle.line.specs.declared.Numbers.{Numbers}
+use Rattle.layout.specs.declared.Numbers.{Numbers}
 use Rattle.line.specs.declared.Reading.{Reading}
 use Rattle.line.proofs.Built.{all-read}
-use Rattle.line.proofs.Steps.{withIds, past, stops, id-good, id-bad, id-number}
+use Rattle.line.proofs.Steps.{withIds, past, stops}
+use Rattle.rule.proofs.Answers.{id-good, id-bad, id-number}
 use Rattle.line.proofs.piece.trade_fields.Statement.{statement}
 use Rattle.line.proofs.piece.trade_fields.Tie as tie
 

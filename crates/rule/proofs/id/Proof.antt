@@ -1,0 +1,32 @@
+-- `rule::id` meets its contract.
+use borrow.Author.Needs.{needs}
+use denote.Ref.{now}
+use Rattle.rule.proofs.Answers.{number-on, no-id, bad-id}
+use Rattle.rule.proofs.id.Statement.{statement}
+use Rattle.rule.proofs.id.Tie as tie
+
+number-requires : tie.Need-number-requires
+number-requires c κs = search needs
+
+returns : tie.Need-returns
+returns c = number-on _ (now (c .before .before .before .args .s)) _ (c .before .if1 .taken) (c .number .ensures)
+
+blank-requires : tie.Need-blank-requires
+blank-requires c κs = search needs
+
+enum-told : tie.Need-enum-told
+enum-told c = search needs
+
+enum-told-2 : tie.Need-enum-told-2
+enum-told-2 c = search needs
+
+returns-2 : tie.Need-returns-2
+returns-2 c = bad-id _ (now (c .before .before .before .before .before .args .s)) _ (c .before .before .before .if1 .left) (c .before .before .blank .ensures) (c .enum-told2 .given .1)
+
+returns-3 : tie.Need-returns-3
+returns-3 c = no-id _ (now (c .before .before .before .before .before .args .s)) _ (c .before .before .before .if1 .left) (c .before .before .blank .ensures) (c .enum-told .given .1)
+
+pub id-spec : {M : Type 1} → statement M
+id-spec =
+    tie.close
+    (tie.spec number-requires returns blank-requires enum-told enum-told-2 returns-2 returns-3)

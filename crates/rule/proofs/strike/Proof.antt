@@ -1,0 +1,17 @@
+-- `rule::strike` meets its contract.
+use mathlib.Core.Path.{_∙_}
+use borrow.Author.Needs.{needs}
+use Rattle.rule.proofs.strike.Statement.{statement}
+use Rattle.rule.proofs.strike.Tie as tie
+
+least-strike-requires : tie.Need-least-strike-requires
+least-strike-requires c κs = search needs
+
+within-requires : tie.Need-within-requires
+within-requires c κs = search needs
+
+returns : tie.Need-returns
+returns c = c .within .ensures ∙ rw (c .before .least-strike .ensures)
+
+pub strike-spec : {M : Type 1} → statement M
+strike-spec = tie.close (tie.spec least-strike-requires within-requires returns)

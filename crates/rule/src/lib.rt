@@ -1,0 +1,109 @@
+// The table of 01, The line, as code has it: its code lists and bounds, once each, and the fields whose rule goes by the type or the denominator.
+ghost use Prim.Native.Nat.{_≤_};
+ghost use mathlib.Core.Bool.{_&&_};
+ghost use mathlib.Core.Path.{_≡_};
+ghost use lib.Dec.{leb};
+ghost use lib.ListN.{length};
+ghost use Rattle.layout.specs.Layout.{isTrade, liquidities, leastStrike};
+ghost use Rattle.layout.specs.Rule.{code, text};
+ghost use Rattle.layout.specs.Rule.{kept as Rule·kept};
+ghost use Rattle.layout.specs.Strikes.{lawfulStrike};
+ghost use Rattle.rule.specs.ByType.{keptOn, idOn};
+use field::Bytes;
+use field::Number;
+use field::digits;
+use field::kept;
+
+pub const TYPES: [u8; 6] = *b"AEXCUR";
+
+pub const CAPACITIES: [u8; 8] = *b"CFMPBOJN";
+
+pub const POSITIONS: [u8; 2] = *b"OC";
+
+const LIQUIDITIES: [u8; 6] = *b"AROarJ";
+
+pub const SIDES: [u8; 2] = *b"BS";
+
+pub const MONTHS: [u8; 24] = *b"ABCDEFGHIJKLMNOPQRSTUVWX";
+
+pub const DENOMINATORS: [u8; 5] = *b"ABCDE";
+
+// The bounds. A least that doesn't stand here is 0.
+pub const LAST_TIMESTAMP: u64 = 86_399_999;
+
+pub const LEAST_CONTRACTS: u64 = 1;
+
+pub const MOST_CONTRACTS: u64 = 999_999;
+
+pub const FIRST_DATE: u64 = 1;
+
+pub const LAST_DATE: u64 = 31;
+
+pub const LAST_YEAR: u64 = 99;
+
+pub const MOST_STRIKE: u64 = 999_999;
+
+pub const MOST_PRICE: u64 = 9_999_999_999;
+
+pub const MOST_ID: u64 = 999_999_999;
+
+pub fn within(v: u64, least: u64, most: u64) -> bool
+    ensures { λ x. ⌜ x ≡ (leb least v && leb v most) ⌝ }
+{
+    (least <= v) & (v <= most)
+}
+
+// Liquidity, Match Id and Cross Id stand on E and C.
+pub fn is_trade(t: u8) -> bool
+    ensures { λ r. ⌜ r ≡ isTrade t ⌝ }
+{
+    (t == b'E') | (t == b'C')
+}
+
+pub fn liquidity(s: &[u8], trade: bool) -> Bytes
+    ensures { λ r. ⌜ r ≡ keptOn trade (code liquidities) (now (s .entry)) ⌝ }
+{
+    if trade {
+        return kept::code(s, &LIQUIDITIES);
+    }
+    kept::blank(s)
+}
+
+pub fn replaced(s: &[u8], replace: bool) -> Bytes
+    ensures { λ r. ⌜ r ≡ keptOn replace (Rule·kept text) (now (s .entry)) ⌝ }
+{
+    if replace {
+        return kept::text(s);
+    }
+    kept::blank(s)
+}
+
+pub fn id(s: &[u8], trade: bool) -> Number
+    requires { ⌜ length (now s) ≤ 19 ⌝ }
+    ensures { λ r. ⌜ r ≡ idOn trade (now (s .entry)) ⌝ }
+{
+    if trade {
+        return digits::number(s, 0, MOST_ID);
+    }
+    let Bytes::Lawful = kept::blank(s) else {
+        return Number::Bad;
+    };
+    Number::Value(0)
+}
+
+// Under A to D the first of a strike's digits isn't 0; under E not all of them are.
+pub fn least_strike(denominator: u8) -> u64
+    ensures { λ r. ⌜ r ≡ leastStrike denominator ⌝ }
+{
+    if denominator == b'E' {
+        return 1;
+    }
+    100_000
+}
+
+// A strike's six digits under a denominator.
+pub fn strike(denominator: u8, digits: u64) -> bool
+    ensures { λ x. ⌜ x ≡ lawfulStrike denominator digits ⌝ }
+{
+    within(digits, least_strike(denominator), MOST_STRIKE)
+}

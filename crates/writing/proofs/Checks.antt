@@ -1,0 +1,74 @@
+-- Checking one field after another: what a field's test makes of the check.
+use Prim.Native.Nat.{ℕ, suc, _<_, _^_}
+use mathlib.Core.Path.{_≡_, sym, _∙_}
+use mathlib.Core.Bool.{Bool, true, false, cond, not, _&&_}
+use mathlib.Core.List.{List, [], _∷_}
+use borrow.Author.Tests.{eq-eqb, not-true, not-false}
+use lib.Dec.{eqb, leb, ltb, leb·zero, leb·suc-suc}
+use lib.ListN.{length, drop}
+use lib.Seq.{drop-cons}
+use Rattle.field.specs.Kept.{member}
+use Rattle.field.specs.Kept.{kept as keptAnswer}
+use Rattle.field.specs.declared.Bytes.{Bytes}
+use Rattle.field.specs.declared.Bytes.the-variants.{Lawful, Unlawful}
+use Rattle.field.proofs.Returns.{lawful-true, unlawful-false}
+use Rattle.layout.specs.Layout.{row, liquidities, isTrade, firstUnlawful}
+use Rattle.layout.specs.Line.{rowsFor}
+use Rattle.layout.specs.Records.{fieldsOf, typeOf, tradeOf, one}
+use Rattle.layout.specs.Rule.{code, kept, text, blank, Kind, isKind, num, run, lawful}
+use Rattle.layout.specs.declared.Record.{Record}
+use Rattle.rule.specs.ByType.{keptOn}
+use Rattle.rule.proofs.Answers.{kept-is}
+use Rattle.writing.specs.Writes.{checkOf, checkFrom}
+use Rattle.writing.proofs.Events.{liquidity-value}
+use Rattle.writing.proofs.Fields.{rowFor, lawfulAt}
+
+-- the fields from one to another are lawful, so the answer is that of those behind them
+abbrev pub Past : ℕ → ℕ → Record → Type 0
+Past from to r = checkFrom to r ≡ checkFrom from r
+
+-- a lawful field leaves the answer to those behind it, an unlawful one is named
+pub judged : (k : ℕ) (r : Record) {t : Bool} → k < 24 → lawfulAt r k ≡ t
+    → checkOf (cond t (firstUnlawful (drop (suc k) (rowsFor r)) (drop (suc k) (fieldsOf r))) (rowFor r k .no)) ≡ checkFrom k r
+judged k r h e = rw (drop-cons (rowsFor r) k (row 0 0 0 (kept blank)) h, drop-cons (fieldsOf r) k (num 0) h, e)
+
+-- by a test of the field
+module _ (k : ℕ) (r : Record) {b : Bool} (h : k < 24) (e : b ≡ lawfulAt r k) where
+  pub test-passes : not b ≡ false → Past k (suc k) r
+  test-passes t = judged k r h (sym e ∙ not-false b t)
+
+  pub test-fails : not b ≡ true → checkOf (rowFor r k .no) ≡ checkFrom k r
+  test-fails t = judged k r h (sym e ∙ not-true b t)
+
+-- by what a reader answers of the field's bytes
+module _ (k : ℕ) (r : Record) {x : Bytes} (h : k < 24) (e : x ≡ keptAnswer (lawfulAt r k)) where
+  pub kept-passes : x ≡ Lawful → Past k (suc k) r
+  kept-passes t = judged k r h (lawful-true (lawfulAt r k) (sym e ∙ t))
+
+  pub kept-fails : x ≡ Unlawful → checkOf (rowFor r k .no) ≡ checkFrom k r
+  kept-fails t = judged k r h (unlawful-false (lawfulAt r k) (sym e ∙ t))
+
+-- ---- the tests of the fields
+
+-- a kind of bytes, of the field's length
+pub kind-is : (k : Kind) (w : ℕ) (b : List ℕ) → length b ≡ w → keptAnswer (isKind k b) ≡ keptAnswer (lawful (kept k) w (run b))
+kind-is k w b l = rw (eq-eqb (length b) w l)
+
+-- a kind that stands on some types only
+kind-on : (on : Bool) (k : Kind) (w : ℕ) (b : List ℕ) → length b ≡ w → keptOn on (kept k) b ≡ keptAnswer (lawful (cond on (kept k) (kept blank)) w (run b))
+kind-on true k w b l = sym (kept-is (isKind k b) b) ∙ kind-is k w b l
+kind-on false k w b l = sym (kept-is (isKind blank b) b) ∙ kind-is blank w b l
+
+-- a code that stands on some types only
+code-on : (on : Bool) (codes : List ℕ) (b : ℕ) → keptOn on (code codes) (b ∷ []) ≡ keptAnswer (lawful (cond on (code codes) (kept blank)) 1 (one b))
+code-on true codes b = sym (kept-is (member b codes) (b ∷ []))
+code-on false codes b = sym (kept-is (isKind blank (b ∷ [])) (b ∷ []))
+
+pub liquidity-is : (r : Record) → keptOn (isTrade (typeOf (r .event))) (code liquidities) (tradeOf (r .event) .liquidity ∷ []) ≡ keptAnswer (lawfulAt r 5)
+liquidity-is r = code-on (isTrade (typeOf (r .event))) liquidities (tradeOf (r .event) .liquidity) ∙ rw (liquidity-value (r .event))
+
+pub replaced-is : (r : Record) → length (r .replaced) ≡ 20 → keptOn (eqb (typeOf (r .event)) 85) (kept text) (r .replaced) ≡ keptAnswer (lawfulAt r 11)
+replaced-is r l = kind-on (eqb (typeOf (r .event)) 85) text 20 (r .replaced) l
+
+pub price-is : (v : ℕ) → (leb 0 v && leb v 9999999999) ≡ ltb v (10 ^ 10)
+price-is v = rw (leb·zero v) (sym (leb·suc-suc v 9999999999))

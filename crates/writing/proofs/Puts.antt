@@ -1,0 +1,30 @@
+-- Writing one field behind another: the runs of bytes that are stored make up the line.
+use Prim.Native.Nat.{ℕ, suc, _+_, _<_}
+use mathlib.Core.Path.{_≡_, _∙_}
+use mathlib.Core.List.{List, _++_, append-assoc}
+use lib.ListN.{length, drop}
+use lib.Seq.{sets, drop-cons}
+use Rattle.field.proofs.Stores.{sets-append}
+use Rattle.layout.specs.Layout.{row, writeRows}
+use Rattle.layout.specs.Line.{crlf, rowsFor}
+use Rattle.layout.specs.Records.{fieldsOf}
+use Rattle.layout.specs.Rule.{kept, blank, num}
+use Rattle.layout.specs.declared.Record.{Record}
+use Rattle.writing.specs.Writes.{lineFrom}
+use Rattle.writing.proofs.Fields.{rowFor, textFor}
+
+line-next : (k : ℕ) (r : Record) → k < 24 → lineFrom k r ≡ textFor r k ++ lineFrom (suc k) r
+unfolding lineFrom
+line-next k r h =
+    rw (drop-cons (rowsFor r) k (row 0 0 0 (kept blank)) h, drop-cons (fieldsOf r) k (num 0) h)
+    (append-assoc (textFor r k) (writeRows (drop (suc k) (rowsFor r)) (drop (suc k) (fieldsOf r))) crlf)
+
+-- a field's bytes are stored, and behind them the rest of the line
+pub field-then : (k : ℕ) (r : Record) (xs l : List ℕ) {l₁ x : List ℕ} → k < 24 → (xs ≡ textFor r k) × (length xs ≡ rowFor r k .len)
+    → l₁ ≡ sets l (rowFor r k .at) xs → x ≡ sets l₁ (rowFor r k .at + rowFor r k .len) (lineFrom (suc k) r)
+    → x ≡ sets l (rowFor r k .at) (lineFrom k r)
+field-then k r xs l h e p q = q ∙ rw (p, line-next k r h, ← (e .0)) (sets-append l (rowFor r k .at) (rowFor r k .len) xs (lineFrom (suc k) r) (e .1))
+
+pub ends : (r : Record) (l : List ℕ) {x : List ℕ} → x ≡ sets l 138 crlf → x ≡ sets l 138 (lineFrom 24 r)
+unfolding lineFrom
+ends r l e = e

@@ -1,0 +1,132 @@
+-- `writing::lawful::order_fields` meets its contract. past-N: where field N is passed, the group's fields up to it are lawful.
+use mathlib.Core.Path.{_∙_}
+use borrow.Author.Needs.{needs}
+use lib.Dec.{lit<}
+use Rattle.layout.specs.Rule.{text, hex}
+use Rattle.writing.proofs.Checks.{Past, test-passes, test-fails, kept-passes, kept-fails, kind-is}
+use Rattle.writing.proofs.Fields.{Sized}
+use Rattle.writing.proofs.lawful.order_fields.Statement.{statement}
+use Rattle.writing.proofs.lawful.order_fields.Tie as tie
+
+sized : (c : tie.Start) → Sized (c .args .r)
+sized c = search needs
+
+slice-aggregate-hex : tie.Need-slice-aggregate-hex
+slice-aggregate-hex c = search needs
+
+hex-requires : tie.Need-hex-requires
+hex-requires c κs = search needs
+
+enum-told : tie.Need-enum-told
+enum-told c = search needs
+
+enum-told-2 : tie.Need-enum-told-2
+enum-told-2 c = search needs
+
+returns : tie.Need-returns
+returns c =
+    let s = c .before .before .before .before .before in
+    kept-fails 12 (s .args .r) (lit< tt) (c .before .before .hex .ensures ∙ kind-is hex 9 (s .args .r .reference) (sized s .reference)) (c .enum-told2 .given .1)
+
+past-13 : (c : tie.After-enum-told) → Past 12 13 (c .before .before .before .before .before .args .r)
+past-13 c =
+    let s = c .before .before .before .before .before in
+    kept-passes 12 (s .args .r) (lit< tt) (c .before .before .hex .ensures ∙ kind-is hex 9 (s .args .r .reference) (sized s .reference)) (c .enum-told .given .1)
+
+slice-aggregate-member : tie.Need-slice-aggregate-member
+slice-aggregate-member c = search needs
+
+member-requires : tie.Need-member-requires
+member-requires c κs = search needs
+
+returns-2 : tie.Need-returns-2
+returns-2 c =
+    let s = c .before .before .before .before .before .before .before .before in
+    test-fails 13 (s .args .r) (lit< tt) (c .before .member .ensures) (c .if1 .taken) ∙ past-13 (c .before .before .before)
+
+past-14 : (c : tie.Else1) → Past 12 14 (c .before .before .before .before .before .before .before .before .args .r)
+past-14 c =
+    let s = c .before .before .before .before .before .before .before .before in
+    test-passes 13 (s .args .r) (lit< tt) (c .before .member .ensures) (c .if1 .left) ∙ past-13 (c .before .before .before)
+
+within-requires : tie.Need-within-requires
+within-requires c κs = search needs
+
+returns-3 : tie.Need-returns-3
+returns-3 c =
+    let s = c .before .before .before .before .before .before .before .before .before .before in
+    test-fails 14 (s .args .r) (lit< tt) (c .before .within .ensures) (c .if2 .taken) ∙ past-14 (c .before .before)
+
+past-15 : (c : tie.Else2) → Past 12 15 (c .before .before .before .before .before .before .before .before .before .before .args .r)
+past-15 c =
+    let s = c .before .before .before .before .before .before .before .before .before .before in
+    test-passes 14 (s .args .r) (lit< tt) (c .before .within .ensures) (c .if2 .left) ∙ past-14 (c .before .before)
+
+slice-aggregate-text : tie.Need-slice-aggregate-text
+slice-aggregate-text c = search needs
+
+text-requires : tie.Need-text-requires
+text-requires c κs = search needs
+
+enum-told-3 : tie.Need-enum-told-3
+enum-told-3 c = search needs
+
+enum-told-4 : tie.Need-enum-told-4
+enum-told-4 c = search needs
+
+returns-4 : tie.Need-returns-4
+returns-4 c =
+    let s = c .before .before .before .before .before .before .before .before .before .before .before .before .before .before .before in
+    kept-fails 15 (s .args .r) (lit< tt) (c .before .before .text .ensures ∙ kind-is text 6 (s .args .r .root) (sized s .root)) (c .enum-told4 .given .1) ∙ past-15 (c .before .before .before .before .before)
+
+past-16 : (c : tie.After-enum-told3) → Past 12 16 (c .before .before .before .before .before .before .before .before .before .before .before .before .before .before .before .args .r)
+past-16 c =
+    let s = c .before .before .before .before .before .before .before .before .before .before .before .before .before .before .before in
+    kept-passes 15 (s .args .r) (lit< tt) (c .before .before .text .ensures ∙ kind-is text 6 (s .args .r .root) (sized s .root)) (c .enum-told3 .given .1) ∙ past-15 (c .before .before .before .before .before)
+
+slice-aggregate-member-2 : tie.Need-slice-aggregate-member-2
+slice-aggregate-member-2 c = search needs
+
+member-requires-2 : tie.Need-member-requires-2
+member-requires-2 c κs = search needs
+
+returns-5 : tie.Need-returns-5
+returns-5 c =
+    let s = c .before .before .before .before .before .before .before .before .before .before .before .before .before .before .before .before .before .before in
+    test-fails 16 (s .args .r) (lit< tt) (c .before .member2 .ensures) (c .if3 .taken) ∙ past-16 (c .before .before .before)
+
+past-17 : (c : tie.Else3) → Past 12 17 (c .before .before .before .before .before .before .before .before .before .before .before .before .before .before .before .before .before .before .args .r)
+past-17 c =
+    let s = c .before .before .before .before .before .before .before .before .before .before .before .before .before .before .before .before .before .before in
+    test-passes 16 (s .args .r) (lit< tt) (c .before .member2 .ensures) (c .if3 .left) ∙ past-16 (c .before .before .before)
+
+series-fields-requires : tie.Need-series-fields-requires
+series-fields-requires c κs = search needs
+
+returns-6 : tie.Need-returns-6
+returns-6 c = c .series-fields .ensures ∙ past-17 (c .before)
+
+pub order-fields-spec : {M : Type 1} → statement M
+order-fields-spec =
+    tie.close
+    (tie.spec
+    slice-aggregate-hex
+    hex-requires
+    enum-told
+    enum-told-2
+    returns
+    slice-aggregate-member
+    member-requires
+    returns-2
+    within-requires
+    returns-3
+    slice-aggregate-text
+    text-requires
+    enum-told-3
+    enum-told-4
+    returns-4
+    slice-aggregate-member-2
+    member-requires-2
+    returns-5
+    series-fields-requires
+    returns-6)

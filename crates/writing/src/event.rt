@@ -1,0 +1,37 @@
+// What an event puts into the fields that go by the type.
+ghost use mathlib.Core.Path.{_≡_};
+ghost use Rattle.layout.specs.Records.{typeOf, tradeOf};
+use layout::Event;
+use layout::Trade;
+
+pub fn type_of(event: Event) -> u8
+    ensures { λ r. ⌜ r ≡ typeOf event ⌝ }
+{
+    match event {
+        Event::Accepted => b'A',
+        Event::Executed(_) => b'E',
+        Event::Cancelled => b'X',
+        Event::Broken(_) => b'C',
+        Event::Replaced => b'U',
+        Event::Repriced => b'R',
+    }
+}
+
+// Where an event carries no trade, the blank liquidity and ids of 0, which are lawful.
+pub fn trade_of(event: Event) -> Trade
+    ensures { λ r. ⌜ r ≡ tradeOf event ⌝ }
+{
+    let none = Trade {
+        liquidity: b' ',
+        match_id: 0,
+        cross_id: 0,
+    };
+    match event {
+        Event::Executed(trade) => trade,
+        Event::Broken(trade) => trade,
+        Event::Accepted => none,
+        Event::Cancelled => none,
+        Event::Replaced => none,
+        Event::Repriced => none,
+    }
+}

@@ -1,0 +1,128 @@
+// Whether a record is lawful. The fields are checked a group at a time, as they are read.
+ghost use mathlib.Core.Path.{_≡_};
+ghost use Rattle.writing.specs.Writes.{checkFrom};
+use crate::Checked;
+use crate::event;
+use field::Bytes;
+use field::kept;
+use layout::Record;
+
+// The first unlawful field, if there is one: here of fields 1 to 6, then group by group of the others. Field 2 is lawful in any
+// record, since an event has no other type.
+pub fn check(r: Record) -> Checked
+    ensures { λ x. ⌜ x ≡ checkFrom 0 r ⌝ }
+{
+    if !rule::within(r.timestamp, 0, rule::LAST_TIMESTAMP) {
+        return Checked::Unlawful(1);
+    }
+    let firm = r.firm;
+    let Bytes::Lawful = kept::text(&firm) else {
+        return Checked::Unlawful(3);
+    };
+    if !kept::member(r.capacity, &rule::CAPACITIES) {
+        return Checked::Unlawful(4);
+    }
+    if !kept::member(r.position, &rule::POSITIONS) {
+        return Checked::Unlawful(5);
+    }
+    let event = r.event;
+    let trade = event::trade_of(event);
+    let liquidity = [trade.liquidity];
+    let Bytes::Lawful = rule::liquidity(&liquidity, rule::is_trade(event::type_of(event))) else {
+        return Checked::Unlawful(6);
+    };
+    account_fields(r)
+}
+
+// Fields 7 to 12.
+fn account_fields(r: Record) -> Checked
+    ensures { λ x. ⌜ x ≡ checkFrom 6 r ⌝ }
+{
+    let account = r.account;
+    let Bytes::Lawful = kept::text_or_blank(&account) else {
+        return Checked::Unlawful(7);
+    };
+    let member = r.member;
+    let Bytes::Lawful = kept::digits_or_blank(&member) else {
+        return Checked::Unlawful(8);
+    };
+    let clearing = r.clearing;
+    let Bytes::Lawful = kept::digits_or_blank(&clearing) else {
+        return Checked::Unlawful(9);
+    };
+    let source = r.source;
+    let Bytes::Lawful = kept::text(&source) else {
+        return Checked::Unlawful(10);
+    };
+    let token = r.token;
+    let Bytes::Lawful = kept::text(&token) else {
+        return Checked::Unlawful(11);
+    };
+    let event = r.event;
+    let replaced = r.replaced;
+    let Bytes::Lawful = rule::replaced(&replaced, event::type_of(event) == b'U') else {
+        return Checked::Unlawful(12);
+    };
+    order_fields(r)
+}
+
+// Fields 13 to 17.
+fn order_fields(r: Record) -> Checked
+    ensures { λ x. ⌜ x ≡ checkFrom 12 r ⌝ }
+{
+    let reference = r.reference;
+    let Bytes::Lawful = kept::hex(&reference) else {
+        return Checked::Unlawful(13);
+    };
+    if !kept::member(r.side, &rule::SIDES) {
+        return Checked::Unlawful(14);
+    }
+    if !rule::within(r.contracts, rule::LEAST_CONTRACTS, rule::MOST_CONTRACTS) {
+        return Checked::Unlawful(15);
+    }
+    let root = r.root;
+    let Bytes::Lawful = kept::text(&root) else {
+        return Checked::Unlawful(16);
+    };
+    if !kept::member(r.month, &rule::MONTHS) {
+        return Checked::Unlawful(17);
+    }
+    series_fields(r)
+}
+
+// Fields 18 to 22.
+fn series_fields(r: Record) -> Checked
+    ensures { λ x. ⌜ x ≡ checkFrom 17 r ⌝ }
+{
+    if !rule::within(r.date, rule::FIRST_DATE, rule::LAST_DATE) {
+        return Checked::Unlawful(18);
+    }
+    if !rule::within(r.year, 0, rule::LAST_YEAR) {
+        return Checked::Unlawful(19);
+    }
+    if !kept::member(r.denominator, &rule::DENOMINATORS) {
+        return Checked::Unlawful(20);
+    }
+    if !rule::strike(r.denominator, r.strike) {
+        return Checked::Unlawful(21);
+    }
+    if !rule::within(r.price, 0, rule::MOST_PRICE) {
+        return Checked::Unlawful(22);
+    }
+    trade_fields(r)
+}
+
+// Fields 23 and 24.
+fn trade_fields(r: Record) -> Checked
+    ensures { λ x. ⌜ x ≡ checkFrom 22 r ⌝ }
+{
+    let event = r.event;
+    let trade = event::trade_of(event);
+    if !rule::within(trade.match_id, 0, rule::MOST_ID) {
+        return Checked::Unlawful(23);
+    }
+    if !rule::within(trade.cross_id, 0, rule::MOST_ID) {
+        return Checked::Unlawful(24);
+    }
+    Checked::Lawful
+}

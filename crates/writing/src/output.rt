@@ -1,0 +1,118 @@
+// Writing a record. The fields are written a group at a time, as they are read and checked.
+ghost use Prim.Native.Nat.{_+_, _≤_};
+ghost use mathlib.Core.Path.{_≡_};
+ghost use lib.ListN.{length};
+ghost use lib.Seq.{sets};
+ghost use Rattle.writing.specs.Promises.{Write};
+ghost use Rattle.writing.specs.Writes.{idText, lineFrom};
+use crate::Checked;
+use crate::Written;
+use crate::event;
+use crate::lawful;
+use field::put;
+use layout::Record;
+use refusal::Refusal;
+
+// Any record, into a buffer of any length. On a refusal no byte of it is changed.
+pub fn write(r: Record, out: &mut [u8]) -> Written
+    ensures { λ x. ⌜ Write r (now (out .entry)) x (now (out .exit)) ⌝ }
+{
+    if out.len() < 140 {
+        return Written::Refused(Refusal::NoRoom);
+    }
+    if let Checked::Unlawful(n) = lawful::check(r) {
+        return Written::Refused(Refusal::Field(n));
+    }
+    event_fields(r, out);
+    Written::Done
+}
+
+// A match or cross id, blank where the event carries none.
+fn id(out: &mut [u8], at: usize, trade: bool, v: u64)
+    requires { ⌜ at + 9 ≤ length (now out) ⌝ }
+    ensures { λ _. ⌜ now (out .exit) ≡ sets (now (out .entry)) at (idText trade v) ⌝ }
+{
+    if trade {
+        put::filled(out, at, 9, v, b' ');
+        return;
+    }
+    put::run(out, at, b"         ");
+}
+
+// Fields 1 to 6.
+fn event_fields(r: Record, out: &mut [u8])
+    requires { ⌜ 140 ≤ length (now out) ⌝ }
+    ensures { λ _. ⌜ now (out .exit) ≡ sets (now (out .entry)) 0 (lineFrom 0 r) ⌝ }
+{
+    let event = r.event;
+    let trade = event::trade_of(event);
+    let firm = r.firm;
+    put::filled(out, 0, 8, r.timestamp, b' ');
+    put::byte(out, 8, event::type_of(event));
+    put::run(out, 9, &firm);
+    put::byte(out, 13, r.capacity);
+    put::byte(out, 14, r.position);
+    put::byte(out, 15, trade.liquidity);
+    account_fields(r, out);
+}
+
+// Fields 7 to 12.
+fn account_fields(r: Record, out: &mut [u8])
+    requires { ⌜ 140 ≤ length (now out) ⌝ }
+    ensures { λ _. ⌜ now (out .exit) ≡ sets (now (out .entry)) 16 (lineFrom 6 r) ⌝ }
+{
+    let account = r.account;
+    put::run(out, 16, &account);
+    let member = r.member;
+    put::run(out, 20, &member);
+    let clearing = r.clearing;
+    put::run(out, 25, &clearing);
+    let source = r.source;
+    put::run(out, 30, &source);
+    let token = r.token;
+    put::run(out, 36, &token);
+    let replaced = r.replaced;
+    put::run(out, 56, &replaced);
+    order_fields(r, out);
+}
+
+// Fields 13 to 17.
+fn order_fields(r: Record, out: &mut [u8])
+    requires { ⌜ 140 ≤ length (now out) ⌝ }
+    ensures { λ _. ⌜ now (out .exit) ≡ sets (now (out .entry)) 76 (lineFrom 12 r) ⌝ }
+{
+    let reference = r.reference;
+    put::run(out, 76, &reference);
+    put::byte(out, 85, r.side);
+    put::filled(out, 86, 6, r.contracts, b' ');
+    let root = r.root;
+    put::run(out, 92, &root);
+    put::byte(out, 98, r.month);
+    series_fields(r, out);
+}
+
+// Fields 18 to 22.
+fn series_fields(r: Record, out: &mut [u8])
+    requires { ⌜ 140 ≤ length (now out) ⌝ }
+    ensures { λ _. ⌜ now (out .exit) ≡ sets (now (out .entry)) 99 (lineFrom 17 r) ⌝ }
+{
+    put::filled(out, 99, 2, r.date, b'0');
+    put::filled(out, 101, 2, r.year, b'0');
+    put::byte(out, 103, r.denominator);
+    put::filled(out, 104, 6, r.strike, b'0');
+    put::price(out, 110, 10, r.price);
+    trade_fields(r, out);
+}
+
+// Fields 23 and 24, and the end of the line.
+fn trade_fields(r: Record, out: &mut [u8])
+    requires { ⌜ 140 ≤ length (now out) ⌝ }
+    ensures { λ _. ⌜ now (out .exit) ≡ sets (now (out .entry)) 120 (lineFrom 22 r) ⌝ }
+{
+    let event = r.event;
+    let trade = event::trade_of(event);
+    let on = rule::is_trade(event::type_of(event));
+    id(out, 120, on, trade.match_id);
+    id(out, 129, on, trade.cross_id);
+    put::run(out, 138, b"\r\n");
+}
