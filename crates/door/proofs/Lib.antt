@@ -6,5 +6,6 @@ pub mod Determined
 pub mod Odd
 pub mod Readings
 pub mod Rows
+pub mod Sooner
 pub mod Stores
 pub mod Writings

@@ -1,12 +1,10 @@
 -- The first byte of a record without meaning: one law for each way out.
 use Prim.Native.Nat.{ℕ, _+_}
-use mathlib.Core.Path.{_≡_, refl}
+use mathlib.Core.Path.{_≡_}
 use mathlib.Core.Bool.{Bool, true, false, not, _&&_, _||_}
 use mathlib.Core.List.{List}
-use native.Mathlib.Omega.{arith}
-use borrow.Author.Tests.{eqb-true, eqb-false, eq-eqb, ne-eqb}
 use lib.Dec.{eqb}
-use lib.ListN.{length, getD}
+use lib.ListN.{getD}
 use Rattle.cell.specs.Cells.{le, isZero}
 use Rattle.field.specs.Byte.{all}
 use Rattle.field.specs.Kept.{member}
@@ -21,43 +19,31 @@ pub odd-id-is : (b : List ℕ) (at : ℕ) (t : Bool) (v : ℕ) → t ≡ isTrade
     → (not (eqb (getD b (at + 8) 0) 0) || not t && not (eqb v 0)) ≡ oddId b at
 odd-id-is b at t v e q = rw (e, q)
 
-pub other-length : (b : List ℕ) → (length b ≡ 138 → ⊥) → 24 ≡ unmeant b
-unfolding unmeant
-other-length b h = rw (ne-eqb (length b) 138 h)
-
-module _ (b : List ℕ) (h : length b ≡ 138) where
+module _ (b : List ℕ) where
   pub no-type : member (getD b 8 0) types ≡ false → 2 ≡ unmeant b
   unfolding unmeant
-  no-type e = rw (eq-eqb (length b) 138 h, e)
+  no-type e = rw e
 
   module _ (m : member (getD b 8 0) types ≡ true) where
     pub odd-liquidity : oddLiquidity b ≡ true → 6 ≡ unmeant b
     unfolding unmeant
-    odd-liquidity e = rw (eq-eqb (length b) 138 h, m, e)
+    odd-liquidity e = rw (m, e)
 
     module _ (l : oddLiquidity b ≡ false) where
       pub odd-price : all isZero (part b 118 2) ≡ false → 22 ≡ unmeant b
       unfolding unmeant
-      odd-price e = rw (eq-eqb (length b) 138 h, m, l, e)
+      odd-price e = rw (m, l, e)
 
       module _ (z : all isZero (part b 118 2) ≡ true) where
         pub odd-match : oddId b 120 ≡ true → 23 ≡ unmeant b
         unfolding unmeant
-        odd-match e = rw (eq-eqb (length b) 138 h, m, l, z, e)
+        odd-match e = rw (m, l, z, e)
 
         module _ (i : oddId b 120 ≡ false) where
           pub odd-cross : oddId b 129 ≡ true → 24 ≡ unmeant b
           unfolding unmeant
-          odd-cross e = rw (eq-eqb (length b) 138 h, m, l, z, i, e)
+          odd-cross e = rw (m, l, z, i, e)
 
           pub all-meant : oddId b 129 ≡ false → 0 ≡ unmeant b
           unfolding unmeant
-          all-meant e = rw (eq-eqb (length b) 138 h, m, l, z, i, e)
-
--- a record whose bytes all have a meaning is 138 bytes long
-pub meant-length : (b : List ℕ) → unmeant b ≡ 0 → length b ≡ 138
-meant-length b e = go (eqb (length b) 138) refl
-  where
-    go : (t : Bool) → eqb (length b) 138 ≡ t → length b ≡ 138
-    go true q = eqb-true (length b) 138 q
-    go false q = absurd (omega (arith, other-length b (eqb-false (length b) 138 q)))
+          all-meant e = rw (m, l, z, i, e)

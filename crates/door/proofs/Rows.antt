@@ -8,7 +8,7 @@ use lib.ListN.{length, getD, drop, length-append}
 use lib.Seq.{take-at, drop-at, drop-drop}
 use Rattle.layout.specs.Demand2.{holds, LawfulRecord}
 use Rattle.layout.specs.Layout.{Row, row, layout, part, writeRows}
-use Rattle.layout.specs.Line.{crlf, rowsFor, lineOf}
+use Rattle.layout.specs.Line.{crlf, rowsFor, lineOf, unlawful}
 use Rattle.layout.specs.Records.{typeOf, fieldsOf}
 use Rattle.layout.specs.Rule.{Value, num, kept, blank, writes}
 use Rattle.layout.specs.declared.Event.{Event}
@@ -46,6 +46,10 @@ tiled Repriced d = refl
 module _ (r : Record) (h : LawfulRecord r) where
   law : Lawful 0 (rowsFor r) (fieldsOf r)
   law = first-lawful (rowsFor r) (fieldsOf r) 1 0 (omega arith) (tiled (r .event) (r .denominator)) refl (every-first (holds r) (h .fields))
+
+  pub all-lawful : unlawful r ≡ 0
+  unfolding unlawful
+  all-lawful = every-first (holds r) (h .fields)
 
   pub line-length : length (lineOf r) ≡ 140
   unfolding lineOf

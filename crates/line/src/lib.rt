@@ -1,7 +1,7 @@
 // Reading a piece and writing a record; the value and the form of a strike; the time of day.
 mod build;
 mod event;
-mod lawful;
+pub mod lawful;
 mod output;
 mod pick;
 mod piece;
@@ -55,7 +55,7 @@ pub enum TimeOfDay {
 }
 
 // Whether a record is lawful, or its first unlawful field.
-pub(crate) enum Check {
+pub enum Check {
     Lawful,
     Unlawful(u8),
 }
