@@ -74,7 +74,7 @@ event-back (Broken t) = refl
 event-back Replaced = refl
 event-back Repriced = refl
 
-liquidity-byte : (e : Event) → writes (onTrade (typeOf e) (code liquidities) (kept blank)) 1 (liquidityOf e) ≡ tradeOf e .liquidity ∷ []
+pub liquidity-byte : (e : Event) → writes (onTrade (typeOf e) (code liquidities) (kept blank)) 1 (liquidityOf e) ≡ tradeOf e .liquidity ∷ []
 liquidity-byte Accepted = refl
 liquidity-byte (Executed t) = refl
 liquidity-byte Cancelled = refl
@@ -107,12 +107,12 @@ module _ (r : Record) (h : LawfulRecord r) where
   front-length : length (take 138 (lineOf r)) ≡ 138
   front-length = length-take-le 138 (lineOf r) (omega (arith, line-length r h))
 
-  image-length : length image ≡ 138
+  pub image-length : length image ≡ 138
   unfolding imageOf
   image-length = ap length (numbers-are-cells r (take 138 (lineOf r))) ∙ length-cells (cells r) (take 138 (lineOf r)) ∙ front-length
 
   -- field k + 1, which is no number
-  kept-field : (k : ℕ) → k < 24 → let place = rowOf (rowsFor r) k in apart (place .at) (place .len) (cells r) ≡ true → leb (place .at + place .len) 138 ≡ true
+  pub kept-field : (k : ℕ) → k < 24 → let place = rowOf (rowsFor r) k in apart (place .at) (place .len) (cells r) ≡ true → leb (place .at + place .len) 138 ≡ true
       → part image (place .at) (place .len) ≡ writes (place .rule) (place .len) (getD (fieldsOf r) k (num 0))
   unfolding imageOf
   kept-field k m a f =
@@ -122,7 +122,7 @@ module _ (r : Record) (h : LawfulRecord r) where
       ∙ part-part (lineOf r) 0 138 (place .at) (place .len) (leb-true (place .at + place .len) 138 f)
       ∙ rw zero-add (field-bytes r h k m)
 
-  number-cell : (k : ℕ) → clear 138 (cells r) k ≡ true
+  pub number-cell : (k : ℕ) → clear 138 (cells r) k ≡ true
       → let c = cellAt (cells r) k in part image (c .at) (c .len) ≡ leBytes (c .len) (c .number)
   unfolding imageOf
   number-cell k e =

@@ -14,7 +14,7 @@ use Rattle.layout.specs.Rule.{Value, num, kept, blank, writes}
 use Rattle.layout.specs.declared.Event.{Event}
 use Rattle.layout.specs.declared.Event.the-variants.{Accepted, Executed, Cancelled, Broken, Replaced, Repriced}
 use Rattle.layout.specs.declared.Record.{Record}
-use Rattle.layout.proofs.First.{every-first}
+use Rattle.layout.proofs.First.{every-first, first-every}
 use Rattle.layout.proofs.Rows.{tiles, Lawful, none, more, first-lawful, lawful-width}
 use Rattle.layout.proofs.Rules.{writes-reads}
 
@@ -42,6 +42,10 @@ tiled Cancelled d = refl
 tiled (Broken t) d = refl
 tiled Replaced d = refl
 tiled Repriced d = refl
+
+pub none-unlawful : (r : Record) → unlawful r ≡ 0 → LawfulRecord r
+unfolding unlawful
+none-unlawful r e = record { fields = first-every (holds r) e }
 
 module _ (r : Record) (h : LawfulRecord r) where
   law : Lawful 0 (rowsFor r) (fieldsOf r)

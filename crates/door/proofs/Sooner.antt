@@ -80,3 +80,11 @@ module _ (b : List ℕ) where
 
     pub rule-in-the-way : unmeant b ≡ 0 → unlawful (recordIn b) ≡ unwritable b
     rule-in-the-way e = rw e at in-the-way
+
+-- what may be written is 138 bytes with a meaning each, and they say a lawful record
+pub writable : (b : List ℕ) → unwritable b ≡ 0 → (length b ≡ 138) × ((unmeant b ≡ 0) × (unlawful (recordIn b) ≡ 0))
+writable b e = go (eqb (length b) 138) refl
+  where
+    go : (t : Bool) → eqb (length b) 138 ≡ t → (length b ≡ 138) × ((unmeant b ≡ 0) × (unlawful (recordIn b) ≡ 0))
+    go true q = let h = eqb-true (length b) 138 q in (h, neither (unmeant b) (unlawful (recordIn b)) (in-the-way b h ∙ e))
+    go false q = absurd (omega (arith, other-length b (eqb-false (length b) 138 q)))

@@ -24,21 +24,24 @@ returns : tie.Need-returns
 returns c =
     let check = c .before .before in
     let start = check .before .before .before in
-    none-sooner (recordIn (now (start .args .b))) (start .args .odd) (search needs) _ (check .check .ensures ∙ ap (checkFrom 0) (check .before .load .ensures)) (c .enum-told .given .1)
+    let said = check .check .ensures ∙ ap (checkFrom 0) (check .before .load .ensures) in
+    none-sooner (recordIn (now (start .args .b))) (start .args .odd) (search needs) _ said (c .enum-told .given .1)
 
 returns-2 : tie.Need-returns-2
 returns-2 c =
     let named = c .before .before in
     let check = named .before .before in
     let start = check .before .before .before in
-    one-sooner (recordIn (now (start .args .b))) (start .args .odd) (search needs) _ (check .check .ensures ∙ ap (checkFrom 0) (check .before .load .ensures)) _ (named .n .given .1) (c .if1 .taken)
+    let said = check .check .ensures ∙ ap (checkFrom 0) (check .before .load .ensures) in
+    one-sooner (recordIn (now (start .args .b))) (start .args .odd) (search needs) _ said _ (named .n .given .1) (c .if1 .taken)
 
 returns-3 : tie.Need-returns-3
 returns-3 c =
     let named = c .before .before in
     let check = named .before .before in
     let start = check .before .before .before in
-    none-before (recordIn (now (start .args .b))) (start .args .odd) (search needs) _ (check .check .ensures ∙ ap (checkFrom 0) (check .before .load .ensures)) _ (named .n .given .1) (c .if1 .left)
+    let said = check .check .ensures ∙ ap (checkFrom 0) (check .before .load .ensures) in
+    none-before (recordIn (now (start .args .b))) (start .args .odd) (search needs) _ said _ (named .n .given .1) (c .if1 .left)
 
 pub first-field-spec : {M : Type 1} → statement M
 first-field-spec = tie.close (tie.spec load-requires check-requires enum-known-n enum-told returns returns-2 returns-3)
