@@ -54,8 +54,8 @@ static inline unsigned skurzelt_field(uint32_t answer) { return answer / 256; }
    nothing. Refuses 4 (record under 138 bytes), 1, 2, 3. */
 uint32_t skurzelt_read(const uint8_t *piece, size_t piece_length, uint8_t *record, size_t record_length, uint64_t *kind);
 
-/* Writes the line of a record into the first 140 bytes of line. Refuses 4 (line under 140 bytes); 3 for a byte of the record that has no meaning, or
-   field 24 for a record that is not 138 bytes long; then 3 for the first field that breaks its rule. */
+/* Writes the line of a record into the first 140 bytes of line. Refuses 4 (line under 140 bytes); 3, field 24, for a record that is not 138 bytes
+   long; then 3 for the first field that has a byte without meaning or breaks its rule. */
 uint32_t skurzelt_write(const uint8_t *record, size_t record_length, uint8_t *line, size_t line_length);
 
 /* A strike's value in hundred-thousandths of a dollar, from its denominator code and its six digits as a number. Refuses 3, field 20 (the code) or

@@ -40,6 +40,12 @@ static void lines(const uint8_t *line)
     uint32_t answer = skurzelt_write(record, sizeof record, back, sizeof back);
     expect("refusal of a bad side", skurzelt_refusal(answer), SKURZELT_FIELD);
     expect("field of a bad side", skurzelt_field(answer), 14);
+    record[137] = 1;
+    expect("a bad side, and a byte behind it without meaning", skurzelt_write(record, sizeof record, back, sizeof back), SKURZELT_FIELD + 256 * 14);
+    record[8] = 'B';
+    expect("a type without meaning, and a bad side behind it", skurzelt_write(record, sizeof record, back, sizeof back), SKURZELT_FIELD + 256 * 2);
+    expect("a record of 137 bytes", skurzelt_write(record, sizeof record - 1, back, sizeof back), SKURZELT_FIELD + 256 * 24);
+    expect("the line after the refusals", memcmp(line, back, sizeof back), 0);
 }
 
 static void numbers(void)

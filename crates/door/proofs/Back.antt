@@ -27,11 +27,12 @@ use Rattle.layout.specs.declared.Record.{Record}
 use Rattle.layout.specs.declared.Trade.{Trade}
 use Rattle.layout.proofs.Demand2.{demand2}
 use Rattle.layout.proofs.Rules.{both}
-use Rattle.door.specs.Images.{imageOf, oddId, recordIn, unmeant}
+use Rattle.door.specs.Images.{imageOf, oddId, recordIn, unmeant, unwritable}
 use Rattle.door.specs.Promises.{writeAnswer, Writes}
 use Rattle.door.proofs.Cells.{cells, cellAt, apart, clear, numbers-are-cells, length-cells, part-apart, part-cell}
 use Rattle.door.proofs.Odd.{all-meant}
-use Rattle.door.proofs.Rows.{rowOf, line-length, field-bytes}
+use Rattle.door.proofs.Rows.{rowOf, all-lawful, line-length, field-bytes}
+use Rattle.door.proofs.Sooner.{rule-in-the-way}
 
 -- ---- the bytes of a number past those that it needs
 
@@ -71,7 +72,7 @@ event-back (Broken t) = refl
 event-back Replaced = refl
 event-back Repriced = refl
 
-liquidity-byte : (e : Event) → writes (onTrade (typeOf e) (code liquidities) (kept blank)) 1 (liquidityOf e) ≡ tradeOf e .liquidity ∷ []
+pub liquidity-byte : (e : Event) → writes (onTrade (typeOf e) (code liquidities) (kept blank)) 1 (liquidityOf e) ≡ tradeOf e .liquidity ∷ []
 liquidity-byte Accepted = refl
 liquidity-byte (Executed t) = refl
 liquidity-byte Cancelled = refl
@@ -104,12 +105,12 @@ module _ (r : Record) (h : LawfulRecord r) where
   front-length : length (take 138 (lineOf r)) ≡ 138
   front-length = length-take-le 138 (lineOf r) (omega (arith, line-length r h))
 
-  image-length : length image ≡ 138
+  pub image-length : length image ≡ 138
   unfolding imageOf
   image-length = ap length (numbers-are-cells r (take 138 (lineOf r))) ∙ length-cells (cells r) (take 138 (lineOf r)) ∙ front-length
 
   -- field k + 1, which is no number
-  kept-field : (k : ℕ) → k < 24 → let place = rowOf (rowsFor r) k in apart (place .at) (place .len) (cells r) ≡ true → leb (place .at + place .len) 138 ≡ true
+  pub kept-field : (k : ℕ) → k < 24 → let place = rowOf (rowsFor r) k in apart (place .at) (place .len) (cells r) ≡ true → leb (place .at + place .len) 138 ≡ true
       → part image (place .at) (place .len) ≡ writes (place .rule) (place .len) (getD (fieldsOf r) k (num 0))
   unfolding imageOf
   kept-field k m a f =
@@ -119,7 +120,7 @@ module _ (r : Record) (h : LawfulRecord r) where
       ∙ part-part (lineOf r) 0 138 (place .at) (place .len) (leb-true (place .at + place .len) 138 f)
       ∙ rw zero-add (field-bytes r h k m)
 
-  number-cell : (k : ℕ) → clear 138 (cells r) k ≡ true
+  pub number-cell : (k : ℕ) → clear 138 (cells r) k ≡ true
       → let c = cellAt (cells r) k in part image (c .at) (c .len) ≡ leBytes (c .len) (c .number)
   unfolding imageOf
   number-cell k e =
@@ -161,7 +162,7 @@ module _ (r : Record) (h : LawfulRecord r) where
   -- ---- every byte has a meaning
 
   lawful-meant : unmeant image ≡ 0
-  lawful-meant = sym (all-meant image image-length
+  lawful-meant = sym (all-meant image
       (rw type-back (is-type (r .event)))
       (rw (type-back, liquidity-back) (no-trade (λ t. t .liquidity) 32 refl (r .event)))
       price-even
@@ -215,16 +216,16 @@ module _ (r : Record) (h : LawfulRecord r) where
         price = number-back 110 8 10 (r .price) (omega arith) (number-cell 5 refl) refl price-small i;
       }
 
-pub back : (p : List ℕ) (r : Record) → read p ≡ value (line r) → (unmeant (imageOf r) ≡ 0) × (recordIn (imageOf r) ≡ r)
-back p r e = let h = demand2 .read-back p r e .0 in (lawful-meant r h, lawful-said r h)
+  lawful-writable : unwritable image ≡ 0
+  lawful-writable = sym (rule-in-the-way image image-length lawful-meant) ∙ rw lawful-said (all-lawful r h)
+
+pub back : (p : List ℕ) (r : Record) → read p ≡ value (line r) → (unwritable (imageOf r) ≡ 0) × (recordIn (imageOf r) ≡ r)
+back p r e = let h = demand2 .read-back p r e .0 in (lawful-writable r h, lawful-said r h)
 
 -- the bytes of the record of a piece are written as that piece, whatever stood in the lent line
 pub piece-back : (p : List ℕ) (r : Record) → read p ≡ value (line r) → (before : List ℕ) → 140 ≤ length before
     → (k : ℕ) (after : List ℕ) → Writes (imageOf r) before k after → (k ≡ 0) × (after ≡ p ++ drop 140 before)
 piece-back p r e before room k after x =
     let b = back p r e in
-    let law = demand2 .read-back p r e in
-    let long = le-ltb (length before) 140 room in
-    let goes = demand2 .lawful-writes r before room .0 (law .0) in
-    let answered : writeAnswer (imageOf r) before ≡ value tt = rw (long, b .0, b .1) (rw long at goes) in
-    (x .said ∙ rw answered, x .out ∙ rw (answered, b .1, law .1))
+    let answered : writeAnswer (imageOf r) before ≡ value tt = rw (le-ltb (length before) 140 room, b .0) in
+    (x .said ∙ rw answered, x .out ∙ rw (answered, b .1, demand2 .read-back p r e .1))

@@ -81,7 +81,7 @@ cells-front (c ∷ cs) xs rest e =
     rw (sets-front bytes xs rest (c .at) (omega (arith, length-le (c .len) (c .number))))
     (cells-front cs (put c xs) rest (rw (length-put c xs) (h .1)))
 
-sets-start : (b xs : List ℕ) → length xs ≤ length b → sets b 0 xs ≡ xs ++ drop (length xs) b
+pub sets-start : (b xs : List ℕ) → length xs ≤ length b → sets b 0 xs ≡ xs ++ drop (length xs) b
 sets-start b xs h = sets-eq xs b 0 (omega arith) ∙ rw zero-add
 
 pub cells-inside : (cs : List Cell) (b xs : List ℕ) → length xs ≤ length b → fitting (length xs) cs ≡ true

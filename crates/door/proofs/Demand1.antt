@@ -6,7 +6,7 @@ use mathlib.Core.Bool.{Bool, true, false, cond, not, _&&_, false≢true}
 use mathlib.Core.List.{List}
 use mathlib.Core.Logic.{inl, inr, ⊎-elim}
 use lib.Dec.{ltb, leb, eqb}
-use lib.ListN.{length, getD}
+use lib.ListN.{length, getD, replicate}
 use Rattle.cell.specs.Cells.{isZero}
 use Rattle.field.specs.Byte.{all}
 use Rattle.field.specs.Kept.{member}
@@ -18,14 +18,14 @@ use Rattle.refusal.specs.declared.Refusal.the-variants.{NoLine, BadByte, Field,
 use Rattle.layout.specs.Clocks.{clock}
 use Rattle.layout.specs.Demand2.{First}
 use Rattle.layout.specs.Layout.{part, timestamp, types, denominators}
-use Rattle.layout.specs.Line.{Said, endOfDay, line, outAfter}
-use Rattle.layout.specs.Line.{read as readLine, write as writeLine}
+use Rattle.layout.specs.Line.{Said, endOfDay, line, outAfter, unlawful}
+use Rattle.layout.specs.Line.{read as readLine}
 use Rattle.layout.specs.Rule.{num, lawful}
 use Rattle.layout.specs.Strikes.{unit, lawfulStrike, strikeValue, formUnder, strikeForm}
 use Rattle.layout.specs.declared.Clock.{Clock}
 use Rattle.layout.specs.declared.Record.{Record}
 use Rattle.layout.specs.declared.Strike.{Strike}
-use Rattle.layout.proofs.Answers.{ReadRefused, ReadSays, read-says, WriteSays, write-says}
+use Rattle.layout.proofs.Answers.{ReadRefused, ReadSays, read-says, write-says}
 use Rattle.order.specs.Names.{keyOf}
 use Rattle.day.specs.History.{isNew, isMaker}
 use Rattle.day.specs.Machine.{Table, find, place, isFound, differs, notOpen, notExecuted, refusalOf, Booked, bookRead}
@@ -37,7 +37,7 @@ use Rattle.book.specs.Bytes.{bookAnswer}
 use Rattle.book.proofs.Refuted.{refusal-stays}
 use Rattle.sheet.specs.Promises.{textOf, sheetAnswer, sheetFrom}
 use Rattle.door.specs.Demand1.{Answers, Refuses, Demand1}
-use Rattle.door.specs.Images.{oddLiquidity, oddId, unmeant, recordIn}
+use Rattle.door.specs.Images.{oddLiquidity, oddId, unmeant, recordIn, sooner, unwritable}
 use Rattle.door.specs.Promises.{codeOf, numberAfter, readAnswer, kindOf, recordAfter, writeAnswer}
 
 -- ---- a value, or a numbered refusal
@@ -82,14 +82,6 @@ read-told s = go (readLine s) (read-says s refl)
     go (value x) h = given x
     go (refused n f) h = unread-told s h
 
-write-told : (r : Record) (out : List ℕ) → Told (writeLine r out)
-write-told r out = go (writeLine r out) (write-says r out refl)
-  where
-    go : (a : Answer (Unit {0})) → WriteSays r out a → Told a
-    go (value u) h = given u
-    go (refused n f) h =
-        ⊎-elim (λ e. rw (e .0, e .1) (other NoRoom refl)) (λ e. rw e (first-told (h .by3 e .1))) (h .number)
-
 -- a field, if any
 abbrev OfField : ℕ → Type 0
 OfField n = eqb n 0 ≡ false → Told {A = Unit {0}} (refused 3 n)
@@ -97,14 +89,27 @@ OfField n = eqb n 0 ≡ false → Told {A = Unit {0}} (refused 3 n)
 unmeant-told : (b : List ℕ) → OfField (unmeant b)
 unfolding unmeant
 unmeant-told b =
-    both OfField (not (eqb (length b) 138)) (λ e. field 24 refl)
-    (both OfField (not (member (getD b 8 0) types)) (λ e. field 2 refl)
+    both OfField (not (member (getD b 8 0) types)) (λ e. field 2 refl)
     (both OfField (oddLiquidity b) (λ e. field 6 refl)
     (both OfField (not (all isZero (part b 118 2))) (λ e. field 22 refl)
-    (both OfField (oddId b 120) (λ e. field 23 refl) (both OfField (oddId b 129) (λ e. field 24 refl) none)))))
+    (both OfField (oddId b 120) (λ e. field 23 refl) (both OfField (oddId b 129) (λ e. field 24 refl) none))))
 
-write-image-told : (b before : List ℕ) → Told (cond (eqb (unmeant b) 0) (writeLine (recordIn b) before) (refused 3 (unmeant b)))
-write-image-told b before = unless Told (eqb (unmeant b) 0) (write-told (recordIn b) before) (unmeant-told b)
+-- as a buffer that has the room is told
+unlawful-told : (r : Record) → OfField (unlawful r)
+unlawful-told r e = let room = replicate {A = ℕ} 140 0 in first-told (write-says {a = refused 3 (unlawful r)} r room (rw e) .by3 refl .1)
+
+sooner-told : (m n : ℕ) → OfField m → OfField n → OfField (sooner m n)
+sooner-told m n f g = both OfField (eqb m 0) g (both OfField (eqb n 0) f (both OfField (ltb n m) g f))
+
+unwritable-told : (b : List ℕ) → OfField (unwritable b)
+unfolding unwritable
+unwritable-told b =
+    both OfField (eqb (length b) 138)
+    (sooner-told (unmeant b) (unlawful (recordIn b)) (unmeant-told b) (unlawful-told (recordIn b)))
+    (λ e. field 24 refl)
+
+write-told : (b : List ℕ) → Told {A = Unit {0}} (cond (eqb (unwritable b) 0) (value tt) (refused 3 (unwritable b)))
+write-told b = unless Told (eqb (unwritable b) 0) (given tt) (unwritable-told b)
 
 strike-value-told : (d n : ℕ) → Told (strikeValue d n)
 unfolding strikeValue
@@ -191,7 +196,7 @@ demand1 =
       read-answers = λ piece before kind r after kind' h.
           told (both Told (ltb (length before) 138) (other NoRoom refl) (read-told piece)) (h .said);
       write-answers = λ b before r after h.
-          told (both Told (ltb (length before) 140) (other NoRoom refl) (write-image-told b before)) (h .said);
+          told (both Told (ltb (length before) 140) (other NoRoom refl) (write-told b)) (h .said);
       strike-value-answers = λ d n v r v' h. told (strike-value-told d n) (h .said);
       strike-form-answers = λ v d n r d' n' h. told (strike-form-told v) (h .said);
       clock-answers = λ ms h m s t r h' m' s' t' p. told (clock-told ms) (p .said);

@@ -3,8 +3,10 @@ pub mod Back
 pub mod Cells
 pub mod Demand1
 pub mod Determined
+pub mod Forth
 pub mod Odd
 pub mod Readings
 pub mod Rows
+pub mod Sooner
 pub mod Stores
 pub mod Writings

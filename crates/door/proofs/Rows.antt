@@ -8,13 +8,13 @@ use lib.ListN.{length, getD, drop, length-append}
 use lib.Seq.{take-at, drop-at, drop-drop}
 use Rattle.layout.specs.Demand2.{holds, LawfulRecord}
 use Rattle.layout.specs.Layout.{Row, row, layout, part, writeRows}
-use Rattle.layout.specs.Line.{crlf, rowsFor, lineOf}
+use Rattle.layout.specs.Line.{crlf, rowsFor, lineOf, unlawful}
 use Rattle.layout.specs.Records.{typeOf, fieldsOf}
 use Rattle.layout.specs.Rule.{Value, num, kept, blank, writes}
 use Rattle.layout.specs.declared.Event.{Event}
 use Rattle.layout.specs.declared.Event.the-variants.{Accepted, Executed, Cancelled, Broken, Replaced, Repriced}
 use Rattle.layout.specs.declared.Record.{Record}
-use Rattle.layout.proofs.First.{every-first}
+use Rattle.layout.proofs.First.{every-first, first-every}
 use Rattle.layout.proofs.Rows.{tiles, Lawful, none, more, first-lawful, lawful-width}
 use Rattle.layout.proofs.Rules.{writes-reads}
 
@@ -43,9 +43,17 @@ tiled (Broken t) d = refl
 tiled Replaced d = refl
 tiled Repriced d = refl
 
+pub none-unlawful : (r : Record) → unlawful r ≡ 0 → LawfulRecord r
+unfolding unlawful
+none-unlawful r e = record { fields = first-every (holds r) e }
+
 module _ (r : Record) (h : LawfulRecord r) where
   law : Lawful 0 (rowsFor r) (fieldsOf r)
   law = first-lawful (rowsFor r) (fieldsOf r) 1 0 (omega arith) (tiled (r .event) (r .denominator)) refl (every-first (holds r) (h .fields))
+
+  pub all-lawful : unlawful r ≡ 0
+  unfolding unlawful
+  all-lawful = every-first (holds r) (h .fields)
 
   pub line-length : length (lineOf r) ≡ 140
   unfolding lineOf

@@ -2,14 +2,14 @@
 use Prim.Native.Nat.{ℕ, _+_}
 use mathlib.Core.Bool.{Bool, cond, not, _&&_, _||_}
 use mathlib.Core.List.{List}
-use lib.Dec.{eqb}
+use lib.Dec.{ltb, eqb}
 use lib.ListN.{length, getD, take}
 use lib.Seq.{sets}
 use Rattle.cell.specs.Cells.{le, leBytes, isZero}
 use Rattle.field.specs.Byte.{all}
 use Rattle.field.specs.Kept.{member}
 use Rattle.layout.specs.Layout.{isTrade, part, types}
-use Rattle.layout.specs.Line.{lineOf}
+use Rattle.layout.specs.Line.{lineOf, unlawful}
 use Rattle.layout.specs.Records.{tradeOf, recordFrom}
 use Rattle.layout.specs.declared.Numbers.{Numbers}
 use Rattle.layout.specs.declared.Record.{Record}
@@ -37,17 +37,25 @@ oddLiquidity b = not (isTrade (getD b 8 0)) && not (eqb (getD b 15 0) 32)
 abbrev pub oddId : List ℕ → ℕ → Bool
 oddId b at = not (eqb (getD b (at + 8) 0) 0) || not (isTrade (getD b 8 0)) && not (eqb (le (part b at 8)) 0)
 
--- the field of the first byte without meaning, or 0. A record of another length has no last field, or more than it
+-- the field of the first byte without meaning of 138 bytes, or 0
 unfoldable pub unmeant : List ℕ → ℕ
 unmeant b =
-    cond (not (eqb (length b) 138)) 24
-    (cond (not (member (getD b 8 0) types)) 2
+    cond (not (member (getD b 8 0) types)) 2
     (cond (oddLiquidity b) 6
-    (cond (not (all isZero (part b 118 2))) 22 (cond (oddId b 120) 23 (cond (oddId b 129) 24 0)))))
+    (cond (not (all isZero (part b 118 2))) 22 (cond (oddId b 120) 23 (cond (oddId b 129) 24 0))))
 
 -- the record that the bytes say
 unfoldable pub recordIn : List ℕ → Record
 recordIn b = recordFrom (numbersIn b) b
+
+-- the lesser of two field numbers, where 0 is none
+abbrev pub sooner : ℕ → ℕ → ℕ
+sooner m n = cond (eqb m 0) n (cond (eqb n 0) m (cond (ltb n m) n m))
+
+-- the field that stands in the way of writing, or 0: the first with a byte without meaning or a broken rule. A record of another length says none.
+-- The lesser is the first: rules before 6, 22, 23 and 24 look at none of their bytes, and before a type read as R stands field 1, which is of any type.
+unfoldable pub unwritable : List ℕ → ℕ
+unwritable b = cond (eqb (length b) 138) (sooner (unmeant b) (unlawful (recordIn b))) 24
 
 -- the ids that the bytes hold: 0 where the type has none
 unfoldable pub idsSet : Trade → List ℕ → List ℕ

@@ -1,3 +1,4 @@
 pub mod Demand1
 pub mod Images
 pub mod Promises
+pub mod RoundTrip

@@ -9,7 +9,7 @@ use lib.Seq.{sets}
 use Rattle.refusal.specs.Answer.{Answer, value, refused}
 use Rattle.layout.specs.Clocks.{clock}
 use Rattle.layout.specs.Line.{Said, line, endOfDay, outAfter}
-use Rattle.layout.specs.Line.{read as readLine, write as writeLine}
+use Rattle.layout.specs.Line.{read as readLine}
 use Rattle.layout.specs.Strikes.{strikeValue, strikeForm}
 use Rattle.layout.specs.declared.Clock.{Clock}
 use Rattle.layout.specs.declared.Strike.{Strike}
@@ -20,7 +20,7 @@ use Rattle.sheet.specs.Promises.{sheetAnswer, sheetFrom}
 use Rattle.piece.specs.Pieces.{nextPiece}
 use Rattle.piece.specs.declared.Ahead.{Ahead}
 use Rattle.piece.specs.declared.Ahead.the-variants.{Piece, Nothing}
-use Rattle.door.specs.Images.{imageOf, recordIn, unmeant}
+use Rattle.door.specs.Images.{imageOf, recordIn, unwritable}
 
 -- 0, or the refusal's number plus 256 times its field
 abbrev pub codeOf : {A : Type 0} → Answer A → ℕ
@@ -52,11 +52,11 @@ pub record Reads (piece before : List ℕ) (kind r : ℕ) (after : List ℕ) (ki
   pub told : kind' ≡ numberAfter kindOf (readAnswer piece before) kind
   pub out : after ≡ recordAfter (readAnswer piece before) before
 
--- ---- `skurzelt_write`: 4, then 3 for a byte without meaning, then 3 for a field that breaks its rule
+-- ---- `skurzelt_write`: 4, then 3 for the first field with a byte without meaning or a broken rule
 
 abbrev pub writeAnswer : List ℕ → List ℕ → Answer (Unit {0})
 writeAnswer b before =
-    cond (ltb (length before) 140) (refused 4 0) (cond (eqb (unmeant b) 0) (writeLine (recordIn b) before) (refused 3 (unmeant b)))
+    cond (ltb (length before) 140) (refused 4 0) (cond (eqb (unwritable b) 0) (value tt) (refused 3 (unwritable b)))
 
 pub record Writes (b before : List ℕ) (r : ℕ) (after : List ℕ) : Type 0 where
   pub said : r ≡ codeOf (writeAnswer b before)

@@ -3,24 +3,23 @@ ghost use Prim.Native.Nat.{_+_, _≤_};
 ghost use mathlib.Core.Path.{_≡_};
 ghost use lib.ListN.{length};
 ghost use lib.Seq.{sets};
-ghost use Rattle.layout.specs.Line.{line, read};
+ghost use Rattle.layout.specs.Line.{line, read, unlawful};
 ghost use Rattle.refusal.specs.Answer.{value};
-ghost use Rattle.door.specs.Images.{earlySet, idsSet, imageOf, lateSet, numbersIn, oddId, oddLiquidity, recordIn, unmeant as Images·unmeant};
+ghost use Rattle.door.specs.Images.{earlySet, idsSet, imageOf, lateSet, numbersIn, oddId, oddLiquidity, recordIn, sooner, unmeant as Images·unmeant};
 use field::kept;
 use field::put;
 use layout::Numbers;
 use layout::Record;
 use layout::Trade;
+use writing::Checked;
 
 pub const RECORD: usize = 138;
 
 // The field of the first byte without meaning, or 0.
 pub fn unmeant(b: &[u8]) -> u8
+    requires { ⌜ length (now b) ≡ 138 ⌝ }
     ensures { λ r. ⌜ r ≡ Images·unmeant (now (b .entry)) ⌝ }
 {
-    if b.len() != RECORD {
-        return 24;
-    }
     if !kept::member(b[8], &rule::TYPES) {
         return 2;
     }
@@ -76,6 +75,21 @@ pub fn load(b: &[u8]) -> Record
     ensures { λ r. ⌜ r ≡ recordIn (now (b .entry)) ⌝ }
 {
     line::record_of(b, numbers(b))
+}
+
+// The first field in the way of writing, where odd is that of the first byte without meaning: the rules are looked at for it only where there is one.
+pub fn first_field(b: &[u8], odd: u8) -> u8
+    requires { ⌜ length (now b) ≡ 138 ⌝ }
+    requires { ⌜ 1 ≤ odd ⌝ }
+    ensures { λ r. ⌜ r ≡ sooner odd (unlawful (recordIn (now (b .entry)))) ⌝ }
+{
+    let Checked::Unlawful(n) = writing::check(load(b)) else {
+        return odd;
+    };
+    if n < odd {
+        return n;
+    }
+    odd
 }
 
 // The bytes of a piece that was read as r, and the numbers over them.

@@ -61,9 +61,12 @@ pub extern "C" fn skurzelt_write(record: &[u8], line: &mut [u8]) -> u32
     if line.len() < 140 {
         return code(Refusal::NoRoom);
     }
+    if record.len() != image::RECORD {
+        return code(Refusal::Field(24));
+    }
     let odd = image::unmeant(record);
     if odd != 0 {
-        return code(Refusal::Field(odd));
+        return code(Refusal::Field(image::first_field(record, odd)));
     }
     match writing::write(image::load(record), line) {
         Written::Done => DONE,

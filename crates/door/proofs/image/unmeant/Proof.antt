@@ -3,12 +3,9 @@ use mathlib.Core.Path.{sym, _∙_}
 use borrow.Author.Needs.{needs}
 use borrow.Author.Tests.{not-true, not-false}
 use denote.Ref.{now}
-use Rattle.door.proofs.Odd.{other-length, no-type, odd-liquidity, odd-price, odd-match, odd-cross, all-meant}
+use Rattle.door.proofs.Odd.{no-type, odd-liquidity, odd-price, odd-match, odd-cross, all-meant}
 use Rattle.door.proofs.image.unmeant.Statement.{statement}
 use Rattle.door.proofs.image.unmeant.Tie as tie
-
-returns : tie.Need-returns
-returns c = other-length (now (c .before .before .args .b)) (c .if1 .taken)
 
 shared-slice-read-member : tie.Need-shared-slice-read-member
 shared-slice-read-member c = search needs
@@ -19,97 +16,90 @@ slice-aggregate-member c = search needs
 member-requires : tie.Need-member-requires
 member-requires c κs = search needs
 
-returns-2 : tie.Need-returns-2
-returns-2 c =
-    let first = c .before .before .before .before in
-    let b = now (first .before .before .args .b) in
-    no-type b (first .if1 .left) (sym (c .before .member .ensures) ∙ not-true _ (c .if2 .taken))
+returns : tie.Need-returns
+returns c =
+    let b = now (c .before .before .before .before .before .args .b) in
+    no-type b (sym (c .before .member .ensures) ∙ not-true _ (c .if1 .taken))
 
 odd-liquidity-requires : tie.Need-odd-liquidity-requires
 odd-liquidity-requires c κs = search needs
 
-returns-3 : tie.Need-returns-3
-returns-3 c =
-    let first = c .before .before .before .before .before .before in
-    let b = now (first .before .before .args .b) in
+returns-2 : tie.Need-returns-2
+returns-2 c =
+    let b = now (c .before .before .before .before .before .before .before .args .b) in
     let second = c .before .before in
-    let known = sym (second .before .member .ensures) ∙ not-false _ (second .if2 .left) in
-    odd-liquidity b (first .if1 .left) known (sym (c .before .odd-liquidity .ensures) ∙ c .if3 .taken)
+    let known = sym (second .before .member .ensures) ∙ not-false _ (second .if1 .left) in
+    odd-liquidity b known (sym (c .before .odd-liquidity .ensures) ∙ c .if2 .taken)
 
 zeros-requires : tie.Need-zeros-requires
 zeros-requires c κs = search needs
 
-returns-4 : tie.Need-returns-4
-returns-4 c =
-    let first = c .before .before .before .before .before .before .before .before in
-    let b = now (first .before .before .args .b) in
+returns-3 : tie.Need-returns-3
+returns-3 c =
+    let b = now (c .before .before .before .before .before .before .before .before .before .args .b) in
     let second = c .before .before .before .before in
-    let known = sym (second .before .member .ensures) ∙ not-false _ (second .if2 .left) in
+    let known = sym (second .before .member .ensures) ∙ not-false _ (second .if1 .left) in
     let third = c .before .before in
-    let plain = sym (third .before .odd-liquidity .ensures) ∙ third .if3 .left in
-    odd-price b (first .if1 .left) known plain (sym (c .before .zeros .ensures) ∙ not-true _ (c .if4 .taken))
+    let plain = sym (third .before .odd-liquidity .ensures) ∙ third .if2 .left in
+    odd-price b known plain (sym (c .before .zeros .ensures) ∙ not-true _ (c .if3 .taken))
 
 odd-id-requires : tie.Need-odd-id-requires
 odd-id-requires c κs = search needs
 
-returns-5 : tie.Need-returns-5
-returns-5 c =
-    let first = c .before .before .before .before .before .before .before .before .before .before in
-    let b = now (first .before .before .args .b) in
+returns-4 : tie.Need-returns-4
+returns-4 c =
+    let b = now (c .before .before .before .before .before .before .before .before .before .before .before .args .b) in
     let second = c .before .before .before .before .before .before in
-    let known = sym (second .before .member .ensures) ∙ not-false _ (second .if2 .left) in
+    let known = sym (second .before .member .ensures) ∙ not-false _ (second .if1 .left) in
     let third = c .before .before .before .before in
-    let plain = sym (third .before .odd-liquidity .ensures) ∙ third .if3 .left in
+    let plain = sym (third .before .odd-liquidity .ensures) ∙ third .if2 .left in
     let fourth = c .before .before in
-    let low = sym (fourth .before .zeros .ensures) ∙ not-false _ (fourth .if4 .left) in
-    odd-match b (first .if1 .left) known plain low (sym (c .before .odd-id .ensures) ∙ c .if5 .taken)
+    let low = sym (fourth .before .zeros .ensures) ∙ not-false _ (fourth .if3 .left) in
+    odd-match b known plain low (sym (c .before .odd-id .ensures) ∙ c .if4 .taken)
 
 odd-id-requires-2 : tie.Need-odd-id-requires-2
 odd-id-requires-2 c κs = search needs
 
+returns-5 : tie.Need-returns-5
+returns-5 c =
+    let b = now (c .before .before .before .before .before .before .before .before .before .before .before .before .before .args .b) in
+    let second = c .before .before .before .before .before .before .before .before in
+    let known = sym (second .before .member .ensures) ∙ not-false _ (second .if1 .left) in
+    let third = c .before .before .before .before .before .before in
+    let plain = sym (third .before .odd-liquidity .ensures) ∙ third .if2 .left in
+    let fourth = c .before .before .before .before in
+    let low = sym (fourth .before .zeros .ensures) ∙ not-false _ (fourth .if3 .left) in
+    let fifth = c .before .before in
+    let even = sym (fifth .before .odd-id .ensures) ∙ fifth .if4 .left in
+    odd-cross b known plain low even (sym (c .before .odd-id2 .ensures) ∙ c .if5 .taken)
+
 returns-6 : tie.Need-returns-6
 returns-6 c =
-    let first = c .before .before .before .before .before .before .before .before .before .before .before .before in
-    let b = now (first .before .before .args .b) in
+    let b = now (c .before .before .before .before .before .before .before .before .before .before .before .before .before .args .b) in
     let second = c .before .before .before .before .before .before .before .before in
-    let known = sym (second .before .member .ensures) ∙ not-false _ (second .if2 .left) in
+    let known = sym (second .before .member .ensures) ∙ not-false _ (second .if1 .left) in
     let third = c .before .before .before .before .before .before in
-    let plain = sym (third .before .odd-liquidity .ensures) ∙ third .if3 .left in
+    let plain = sym (third .before .odd-liquidity .ensures) ∙ third .if2 .left in
     let fourth = c .before .before .before .before in
-    let low = sym (fourth .before .zeros .ensures) ∙ not-false _ (fourth .if4 .left) in
+    let low = sym (fourth .before .zeros .ensures) ∙ not-false _ (fourth .if3 .left) in
     let fifth = c .before .before in
-    let even = sym (fifth .before .odd-id .ensures) ∙ fifth .if5 .left in
-    odd-cross b (first .if1 .left) known plain low even (sym (c .before .odd-id2 .ensures) ∙ c .if6 .taken)
-
-returns-7 : tie.Need-returns-7
-returns-7 c =
-    let first = c .before .before .before .before .before .before .before .before .before .before .before .before in
-    let b = now (first .before .before .args .b) in
-    let second = c .before .before .before .before .before .before .before .before in
-    let known = sym (second .before .member .ensures) ∙ not-false _ (second .if2 .left) in
-    let third = c .before .before .before .before .before .before in
-    let plain = sym (third .before .odd-liquidity .ensures) ∙ third .if3 .left in
-    let fourth = c .before .before .before .before in
-    let low = sym (fourth .before .zeros .ensures) ∙ not-false _ (fourth .if4 .left) in
-    let fifth = c .before .before in
-    let even = sym (fifth .before .odd-id .ensures) ∙ fifth .if5 .left in
-    all-meant b (first .if1 .left) known plain low even (sym (c .before .odd-id2 .ensures) ∙ c .if6 .left)
+    let even = sym (fifth .before .odd-id .ensures) ∙ fifth .if4 .left in
+    all-meant b known plain low even (sym (c .before .odd-id2 .ensures) ∙ c .if5 .left)
 
 pub unmeant-spec : {M : Type 1} → statement M
 unmeant-spec =
     tie.close
     (tie.spec
-    returns
     shared-slice-read-member
     slice-aggregate-member
     member-requires
-    returns-2
+    returns
     odd-liquidity-requires
-    returns-3
+    returns-2
     zeros-requires
-    returns-4
+    returns-3
     odd-id-requires
-    returns-5
+    returns-4
     odd-id-requires-2
-    returns-6
-    returns-7)
+    returns-5
+    returns-6)
