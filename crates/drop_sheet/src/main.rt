@@ -5,7 +5,12 @@ ghost use mathlib.Core.Path.{_≡_};
 ghost use mathlib.Core.Bool.{true};
 ghost use lib.ListN.{length};
 ghost use Rattle.table.specs.Tables.{sound};
-use feed::Fed;
+
+// What a chunk leaves for the next: how much is held, and the number of the piece to come.
+struct Kept {
+    held: usize,
+    line: u64,
+}
 
 // Header and 512 slots.
 fn table_buffer() -> [u8; 40968]
@@ -28,14 +33,14 @@ fn run(t: &mut [u8], hold: &mut [u8], chunk: &mut [u8], out: &mut [u8])
     requires { ⌜ 40006 ≤ length (now out) ⌝ }
 {
     table::make_empty(t);
-    let fed = read_all(t, hold, chunk, out);
-    let n = feed::finish(t, hold, fed.held, fed.line, out);
+    let kept = read_all(t, hold, chunk, out);
+    let n = feed::finish(t, hold, kept.held, kept.line, out);
     say(out, n);
 }
 
 // Chunk after chunk. A failed read counts as the end of the input. A proved loop has to end, and nothing says that the input does, so it counts its
 // turns down from a number that no run uses up.
-fn read_all(t: &mut [u8], hold: &mut [u8], chunk: &mut [u8], out: &mut [u8]) -> Fed
+fn read_all(t: &mut [u8], hold: &mut [u8], chunk: &mut [u8], out: &mut [u8]) -> Kept
     requires { ⌜ sound (now t) ≡ true ⌝ }
     requires { ⌜ length (now hold) ≡ 141 ⌝ }
     requires { ⌜ 40006 ≤ length (now out) ⌝ }
@@ -50,17 +55,12 @@ fn read_all(t: &mut [u8], hold: &mut [u8], chunk: &mut [u8], out: &mut [u8]) -> 
         if n == 0 {
             break;
         }
-        let fed = take_chunk(&chunk[0..n], t, hold, held, line, out);
-        held = fed.held;
-        line = fed.line;
+        let kept = take_chunk(&chunk[0..n], t, hold, held, line, out);
+        held = kept.held;
+        line = kept.line;
         turns -= 1;
     }
-    Fed {
-        used: 0,
-        wrote: 0,
-        held,
-        line,
-    }
+    Kept { held, line }
 }
 
 // All of a chunk: one step after another, and what each says is written out before the next read.
@@ -71,7 +71,7 @@ fn take_chunk(
     held: usize,
     line: u64,
     out: &mut [u8],
-) -> Fed
+) -> Kept
     requires { ⌜ sound (now t) ≡ true ⌝ }
     requires { ⌜ length (now hold) ≡ 141 ⌝ }
     requires { ⌜ held ≤ 141 ⌝ }
@@ -88,9 +88,7 @@ fn take_chunk(
         kept = fed.held;
         number = fed.line;
     }
-    Fed {
-        used,
-        wrote: 0,
+    Kept {
         held: kept,
         line: number,
     }

@@ -13,7 +13,6 @@ mod report;
 
 use sheet::Writing;
 
-const LF: u8 = 10;
 // The longest refusal line.
 const LONGEST: usize = 46;
 
@@ -55,7 +54,7 @@ pub fn step(
     let mut number = line;
     while used < chunk.len() {
         let end = piece::end(chunk, used);
-        if chunk[end - 1] != LF {
+        if chunk[end - 1] != piece::LF {
             let begun = hold::keep(hold, kept, &chunk[used..end]);
             return Fed {
                 used: end,
@@ -120,6 +119,7 @@ pub fn finish(t: &mut [u8], hold: &[u8], held: usize, line: u64, out: &mut [u8])
     requires { ⌜ held ≤ 141 ⌝ }
     requires { ⌜ 40006 ≤ length (now out) ⌝ }
     ensures { λ r. ⌜ Wrote (finished (between (heldIn (now (hold .entry)) held) line (now (t .entry)))) (now (out .entry)) (now (out .exit)) r ⌝ }
+    ensures { λ _. ⌜ now (t .exit) ≡ lastTable (between (heldIn (now (hold .entry)) held) line (now (t .entry))) ⌝ }
 {
     let said = book_last(t, hold, held, line, out);
     said + sheet_of(t, &mut out[said..])

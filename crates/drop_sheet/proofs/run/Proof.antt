@@ -35,7 +35,7 @@ finish-requires c κs =
 say-requires : tie.Need-say-requires
 say-requires c κs =
     let all = c .before .before .before .before .before .before .before .before .before .before .before .before .before .before .before .before .before .read-all in
-    written-inside (heldIn (all .last .1 .0) (all .result .held)) (all .result .line) (all .last .0) (all .last .1 .1 .1 .0) (all .ensures .1) (all .ensures .3) (c .before .before .before .before .before .finish .ensures)
+    written-inside (heldIn (all .last .1 .0) (all .result .held)) (all .result .line) (all .last .0) (all .last .1 .1 .1 .0) (all .ensures .1) (all .ensures .3) (c .before .before .before .before .before .finish .ensures .0)
 
 same-length : tie.Need-same-length
 same-length c = search needs

@@ -46,7 +46,7 @@ returns : tie.Need-returns
 returns c =
     let a = c .before .before .before .before .before .before .before .before .before .before .before .before .before .before .before .args in
     let last = c .before .before .before .before .before .before .before .before .before .book-last .ensures in
-    all-written (heldIn (now (a .hold)) (a .held)) (a .line) (now (a .t)) (last .1) (last .0) (c .before .before .sheet-of .ensures)
+    (all-written (heldIn (now (a .hold)) (a .held)) (a .line) (now (a .t)) (last .1) (last .0) (c .before .before .sheet-of .ensures), last .1)
 
 pub finish-spec : {M : Type 1} → statement M
 finish-spec =
