@@ -1,3 +1,4 @@
 pub mod Apart
 pub mod Given
+pub mod Lent
 pub mod Standing
