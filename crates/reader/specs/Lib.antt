@@ -1,3 +1,4 @@
 pub mod Handed
+pub mod Numbering
 pub mod Reading
 pub mod Starting

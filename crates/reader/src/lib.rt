@@ -4,6 +4,7 @@ ghost use lib.ListN.{length};
 ghost use Rattle.piece.specs.Pieces.{pieces};
 ghost use Rattle.piece.specs.Promises.{Nexts};
 ghost use Rattle.reader.specs.Handed.{VeryBytes};
+ghost use Rattle.reader.specs.Numbering.{Numbered};
 ghost use Rattle.reader.specs.Reading.{overText, pastPiece};
 use piece::Ahead;
 
@@ -56,4 +57,20 @@ pub fn count(text: &[u8]) -> usize
         n += 1;
     }
     n
+}
+
+// The piece with a number, counted from 0, in the lent text itself; empty where the text has no such piece. As with `count`, a caller needs no walk.
+pub fn nth<'a>(text: &'a [u8], n: usize) -> &'a [u8]
+    ensures { λ p. ⌜ Numbered (text .entry) n p ⌝ }
+{
+    let mut r = over(text);
+    let mut i = 0;
+    while i < n {
+        let Ahead::Piece(_) = next(r) else {
+            break;
+        };
+        r = past(r);
+        i += 1;
+    }
+    bytes(r)
 }
