@@ -1,11 +1,12 @@
 -- What the answers about the fields that go by the type or the denominator say of their rules, over plain variables.
-use Prim.Native.Nat.{ℕ}
+use Prim.Native.Nat.{ℕ, _^_}
 use mathlib.Core.Path.{_≡_, refl, sym, ap, _∙_}
 use mathlib.Core.Bool.{Bool, true, false, cond}
 use mathlib.Core.List.{List}
 use mathlib.Core.Logic.{_⊎_, inl, inr}
 use native.Mathlib.Omega.{arith}
 use borrow.Author.Tests.{ne-eqb}
+use lib.Dec.{leb, ltb, leb·suc-suc}
 use Rattle.field.specs.Kept.{isText, isBlank, isCode}
 use Rattle.field.specs.Kept.{kept as keptAnswer}
 use Rattle.field.specs.Number.{number as readNumber}
@@ -114,3 +115,7 @@ id-number false b x v e l = by-test (isBlank b) (sym e ∙ l)
     by-test : (a : Bool) → idGot (gotRun a b) ≡ Number·Value v → v ≡ 0
     by-test true q = cc
     by-test false q = let z : _≡_ {A = ℕ} 0 1 = cc in absurd (omega arith)
+
+-- the most that ten bytes of a price hold
+pub price-most : (v : ℕ) → leb v 9999999999 ≡ ltb v (10 ^ 10)
+price-most v = sym (leb·suc-suc v 9999999999)

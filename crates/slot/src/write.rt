@@ -1,7 +1,6 @@
 // An order written into its slot.
-ghost use Prim.Native.Nat.{_+_, _≤_, _<_};
+ghost use Prim.Native.Nat.{_+_, _≤_};
 ghost use mathlib.Core.Path.{_≡_};
-ghost use mathlib.Core.List.{[], _∷_};
 ghost use lib.ListN.{length};
 ghost use lib.Seq.{sets};
 ghost use Rattle.slot.specs.Slots.{slotBytes, keyBytes, expiryBytes, seriesBytes, tradedBytes, figuresBytes, termsBytes};
@@ -15,13 +14,6 @@ use order::Figures;
 use order::Key;
 use order::Order;
 use order::Series;
-
-fn put_byte(t: &mut [u8], at: usize, b: u8)
-    requires { ⌜ at < length (now t) ⌝ }
-    ensures { λ _. ⌜ now (t .exit) ≡ sets (now (t .entry)) at (b ∷ []) ⌝ }
-{
-    t[at] = b;
-}
 
 fn put_key(t: &mut [u8], at: usize, k: Key)
     requires { ⌜ at + 26 ≤ length (now t) ⌝ }
@@ -40,7 +32,7 @@ fn put_expiry(t: &mut [u8], at: usize, s: Series)
 {
     let root = s.root;
     put::run(t, at, &root);
-    put_byte(t, at + 6, s.month);
+    put::byte(t, at + 6, s.month);
     cell::put(t, at + 7, 1, s.date);
     cell::put(t, at + 8, 1, s.year);
 }
@@ -50,7 +42,7 @@ fn put_series(t: &mut [u8], at: usize, s: Series)
     ensures { λ _. ⌜ now (t .exit) ≡ sets (now (t .entry)) at (seriesBytes s) ⌝ }
 {
     put_expiry(t, at, s);
-    put_byte(t, at + 9, s.denominator);
+    put::byte(t, at + 9, s.denominator);
     cell::put(t, at + 10, 4, s.strike);
 }
 
@@ -80,7 +72,7 @@ fn put_terms(t: &mut [u8], at: usize, o: Order)
     ensures { λ _. ⌜ now (t .exit) ≡ sets (now (t .entry)) at (termsBytes o) ⌝ }
 {
     put_key(t, at, o.key);
-    put_byte(t, at + 26, o.side);
+    put::byte(t, at + 26, o.side);
     put_series(t, at + 27, o.series);
     cell::put(t, at + 41, 8, o.price);
 }

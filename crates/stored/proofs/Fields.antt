@@ -8,29 +8,27 @@ use borrow.Author.Tests.{eqb-true, eqb-false, eq-eqb, ne-eqb}
 use lib.Dec.{leb, eqb, leb·zero}
 use lib.ListN.{length}
 use Rattle.field.specs.Kept.{isText, member}
-use Rattle.layout.specs.Layout.{months, denominators, leastStrike}
-use Rattle.layout.specs.Rule.{kept, text, run, digits, num, lawful}
+use Rattle.layout.specs.Layout.{sides, months, denominators}
+use Rattle.layout.specs.Rule.{kept, text, run, lawful}
+use Rattle.layout.specs.Strikes.{lawfulStrike}
 use Rattle.order.specs.declared.Figures.{Figures}
+use Rattle.order.specs.declared.Order.{Order}
 use Rattle.order.specs.declared.Series.{Series}
-use Rattle.day.specs.Damage.{lawfulSeries}
+use Rattle.rule.proofs.Answers.{price-most}
+use Rattle.day.specs.Damage.{lawfulKey, lawfulSeries, soundFigures, soundOrder}
 
 pub text-lawful : (w : ℕ) (b : List ℕ) (r : Bool) → length b ≡ w → r ≡ isText b → r ≡ lawful (kept text) w (run b)
 text-lawful w b r h e = rw (eq-eqb (length b) w h) e
 
-pub strike-from : (least d v : ℕ) → least ≡ leastStrike d → (leb least v && leb v 999999) ≡ lawful (digits (leastStrike d) 999999) 6 (num v)
-strike-from least d v e = rw e
-
-pub least-e : (d : ℕ) → d ≡ 69 → 1 ≡ leastStrike d
-least-e d e = rw (eq-eqb d 69 e)
-
-pub least-other : (d : ℕ) → (d ≡ 69 → ⊥) → 100000 ≡ leastStrike d
-least-other d e = rw (ne-eqb d 69 e)
-
 pub series-lawful : (s : Series) (a b c d : Bool) → a ≡ lawful (kept text) 6 (run (s .root)) → b ≡ member (s .month) months
-    → c ≡ member (s .denominator) denominators → d ≡ lawful (digits (leastStrike (s .denominator)) 999999) 6 (num (s .strike))
+    → c ≡ member (s .denominator) denominators → d ≡ lawfulStrike (s .denominator) (s .strike)
     → (a && b && leb 1 (s .date) && leb (s .date) 31 && leb (s .year) 99 && c && d) ≡ lawfulSeries s
 series-lawful s a b c d p q r t =
     rw (p, q, r, t, and-assoc (lawful (kept text) 6 (run (s .root)) && member (s .month) months) (leb 1 (s .date)) (leb (s .date) 31), leb·zero)
+
+pub order-sound : (o : Order) (a b c d : Bool) → a ≡ lawfulKey (o .key) → b ≡ member (o .side) sides → c ≡ lawfulSeries (o .series)
+    → d ≡ soundFigures (o .figures) → (a && b && c && leb (o .price) 9999999999 && d) ≡ soundOrder o
+order-sound o a b c d p q r t = rw (p, q, r, t, price-most (o .price))
 
 -- two tests that hold in the same cases
 same-test : (a b c d : ℕ) → (a ≡ b → c ≡ d) → (c ≡ d → a ≡ b) → eqb a b ≡ eqb c d

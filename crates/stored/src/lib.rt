@@ -3,8 +3,6 @@ ghost use Prim.Native.Nat.{_+_};
 ghost use mathlib.Core.Path.{_≡_};
 ghost use lib.Dec.{eqb};
 ghost use Rattle.field.specs.Kept.{isText};
-ghost use Rattle.layout.specs.Layout.{leastStrike};
-ghost use Rattle.layout.specs.Rule.{digits, num, lawful};
 ghost use Rattle.day.specs.Damage.{lawfulKey, lawfulSeries, soundFigures, soundOrder};
 use field::Bytes;
 use field::kept;
@@ -30,26 +28,17 @@ fn lawful_key(k: Key) -> bool
     is_text(&source) & is_text(&token)
 }
 
-fn lawful_strike(denominator: u8, strike: u64) -> bool
-    ensures { λ r. ⌜ r ≡ lawful (digits (leastStrike denominator) 999999) 6 (num strike) ⌝ }
-{
-    if denominator == b'E' {
-        return (1 <= strike) & (strike <= 999_999);
-    }
-    (100_000 <= strike) & (strike <= 999_999)
-}
-
 fn lawful_series(s: Series) -> bool
     ensures { λ r. ⌜ r ≡ lawfulSeries s ⌝ }
 {
     let root = s.root;
     is_text(&root)
-        & kept::member(s.month, b"ABCDEFGHIJKLMNOPQRSTUVWX")
-        & (1 <= s.date)
-        & (s.date <= 31)
-        & (s.year <= 99)
-        & kept::member(s.denominator, b"ABCDE")
-        & lawful_strike(s.denominator, s.strike)
+        & kept::member(s.month, &rule::MONTHS)
+        & (rule::FIRST_DATE <= s.date)
+        & (s.date <= rule::LAST_DATE)
+        & (s.year <= rule::LAST_YEAR)
+        & kept::member(s.denominator, &rule::DENOMINATORS)
+        & rule::strike(s.denominator, s.strike)
 }
 
 // The parts are taken from the size one after another, since stored figures may be too large for a sum.
@@ -73,7 +62,10 @@ fn sums(f: Figures) -> bool
 fn sound_figures(f: Figures) -> bool
     ensures { λ r. ⌜ r ≡ soundFigures f ⌝ }
 {
-    (1 <= f.size) & (f.size <= 999_999) & (f.broken <= f.executed) & sums(f)
+    (rule::LEAST_CONTRACTS <= f.size)
+        & (f.size <= rule::MOST_CONTRACTS)
+        & (f.broken <= f.executed)
+        & sums(f)
 }
 
 pub fn sound_order(o: Order) -> bool
@@ -83,8 +75,8 @@ pub fn sound_order(o: Order) -> bool
     let series = o.series;
     let figures = o.figures;
     lawful_key(key)
-        & kept::member(o.side, b"BS")
+        & kept::member(o.side, &rule::SIDES)
         & lawful_series(series)
-        & (o.price < 10_000_000_000)
+        & (o.price <= rule::MOST_PRICE)
         & sound_figures(figures)
 }

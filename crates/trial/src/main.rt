@@ -1,55 +1,47 @@
 // Runs the entries of the door on cases from standard input, for the comparison with the second program (docs/TRIAL.md).
 mod ask;
 mod chunks;
-mod lines;
-mod say;
-mod show;
 mod space;
 mod tables;
 mod texts;
 
 fn main() {
+    let mut payload = io::large_buffer();
     let mut table = space::table();
     let mut len = 0;
-    cases(&mut table, &mut len);
+    cases(&mut payload, &mut table, &mut len);
 }
 
 // The cases one after another. A proved loop has to end, and nothing says that the input does, so it counts its turns down from a number
 // that no run uses up.
-fn cases(table: &mut [u8], len: &mut usize) {
+fn cases(payload: &mut [u8], table: &mut [u8], len: &mut usize) {
     let mut turns = u64::MAX;
-    while turns > 0 && one_case(table, len) {
+    while turns > 0 && one_case(payload, table, len) {
         turns -= 1;
     }
 }
 
 // One case: a letter, the length in four bytes, the payload. Answers whether there may be another.
-fn one_case(table: &mut [u8], len: &mut usize) -> bool {
-    let mut head = [0u8; 5];
-    let got = io::read_full(libc::STDIN_FILENO, &mut head);
-    if got < 5 {
+fn one_case(payload: &mut [u8], table: &mut [u8], len: &mut usize) -> bool {
+    if payload.len() < 5 {
         return false;
     }
-    let kind = head[0];
-    let long = length_of(head[1], head[2], head[3], head[4]);
-    let mut payload = io::large_buffer();
-    ask_about(kind, &mut payload, long, table, len)
+    if io::read_full(libc::STDIN_FILENO, &mut payload[0..5]) < 5 {
+        return false;
+    }
+    let kind = payload[0];
+    let long = cell::get(payload, 1, 4) as usize;
+    ask_about(kind, payload, long, table, len)
 }
 
-// The payload, read into a lent buffer.
 fn ask_about(kind: u8, payload: &mut [u8], long: usize, table: &mut [u8], len: &mut usize) -> bool {
     if payload.len() < long {
         say::text(b"case too long\n");
         return false;
     }
-    let got = io::read_full(libc::STDIN_FILENO, &mut payload[0..long]);
-    if got < long {
+    if io::read_full(libc::STDIN_FILENO, &mut payload[0..long]) < long {
         return false;
     }
     ask::case(kind, &payload[0..long], table, len);
     true
-}
-
-fn length_of(a: u8, b: u8, c: u8, d: u8) -> usize {
-    a as usize + b as usize * 256 + c as usize * 65536 + d as usize * 16777216
 }

@@ -1,23 +1,20 @@
 // The cases about the table in hand. Each tests what its payload says, so that nothing has to be shown of it.
-use crate::say;
 use crate::space;
 use field::put;
 
 // The table in hand is the first len bytes of table.
-pub fn case(kind: u8, s: &[u8], table: &mut [u8], len: &mut usize) {
+pub fn case(kind: u8, s: &[u8], table: &mut [u8], len: &mut usize) -> bool {
     if kind == b't' {
-        *len = take(s, table, *len);
-        return;
+        return take(s, table, len);
     }
-    in_hand(kind, s, table, *len);
+    if table.len() < *len {
+        return false;
+    }
+    in_hand(kind, s, &mut table[0..*len])
 }
 
 // A case that leaves the table its length.
-fn in_hand(kind: u8, s: &[u8], table: &mut [u8], len: usize) {
-    if table.len() < len {
-        return;
-    }
-    let t = &mut table[0..len];
+fn in_hand(kind: u8, s: &[u8], t: &mut [u8]) -> bool {
     match kind {
         b'p' => patch(s, t),
         b'e' => make_empty(s, t),
@@ -26,80 +23,77 @@ fn in_hand(kind: u8, s: &[u8], table: &mut [u8], len: usize) {
         b'o' => copy_order(s, t),
         b'b' => book(s, t),
         b'h' => sheet(s, t),
-        _ => say::bad_case(),
+        _ => false,
     }
 }
 
-// Answers the length of the table in hand afterwards.
-fn take(s: &[u8], table: &mut [u8], len: usize) -> usize {
+fn take(s: &[u8], table: &mut [u8], len: &mut usize) -> bool {
     if table.len() < s.len() {
-        say::bad_case();
-        return len;
+        return false;
     }
     put::run(table, 0, s);
+    *len = s.len();
     say::numbered(b"table ", s.len() as u64);
-    say::last_sum(s);
-    s.len()
+    say::sum(s);
+    true
 }
 
-fn patch(s: &[u8], t: &mut [u8]) {
+fn patch(s: &[u8], t: &mut [u8]) -> bool {
     if s.len() < 4 {
-        say::bad_case();
-        return;
+        return false;
     }
     let at = cell::get(s, 0, 4) as usize;
     if t.len() < at {
-        say::bad_case();
-        return;
+        return false;
     }
     if t.len() - at < s.len() - 4 {
-        say::bad_case();
-        return;
+        return false;
     }
     put::run(t, at, &s[4..]);
     say::text(b"patch");
-    say::last_sum(t);
+    say::sum(t);
+    true
 }
 
-fn make_empty(s: &[u8], t: &mut [u8]) {
+fn make_empty(s: &[u8], t: &mut [u8]) -> bool {
     if s.len() != 0 {
-        say::bad_case();
-        return;
+        return false;
     }
     let code = door::skurzelt_empty_table(t);
-    say::text(b"empty");
-    say::answer(code);
-    say::last_sum(t);
+    changed(b"empty", code, t);
+    true
 }
 
-fn damage(s: &[u8], t: &[u8]) {
+// The answer of an entry that may change the table.
+fn changed(word: &[u8], code: u32, t: &[u8]) {
+    say::text(word);
+    say::answer(code);
+    say::sum(t);
+}
+
+fn damage(s: &[u8], t: &[u8]) -> bool {
     if s.len() != 0 {
-        say::bad_case();
-        return;
+        return false;
     }
     if door::skurzelt_check_table(t) == 0 {
-        say::text(b"undamaged\n");
-    } else {
-        say::text(b"damaged\n");
+        say::text(b"undamaged");
+        return true;
     }
+    say::text(b"damaged");
+    true
 }
 
-fn look_up(key: &[u8], t: &[u8]) {
-    let mut place = 0;
+fn look_up(key: &[u8], t: &[u8]) -> bool {
+    let mut place = 7;
     let code = door::skurzelt_find_order(t, key, &mut place);
     say::text(b"lookup");
-    if code == 0 {
-        say::numbered(b" ", place);
-    } else {
-        say::refused(code);
-    }
-    say::text(b"\n");
+    say::number(b" ", code, place);
+    true
 }
 
-fn copy_order(s: &[u8], t: &[u8]) {
+fn copy_order(s: &[u8], t: &[u8]) -> bool {
     if s.len() != 10 {
-        say::bad_case();
-        return;
+        return false;
     }
     let mut buffer = [b'.'; 300];
     copied_in(
@@ -107,52 +101,54 @@ fn copy_order(s: &[u8], t: &[u8]) {
         cell::get(s, 0, 8),
         &mut buffer,
         cell::get(s, 8, 2) as usize,
-    );
+    )
 }
 
 // The order at a place, into a buffer of n bytes.
-fn copied_in(t: &[u8], place: u64, buffer: &mut [u8], n: usize) {
+fn copied_in(t: &[u8], place: u64, buffer: &mut [u8], n: usize) -> bool {
     if buffer.len() < n {
-        say::bad_case();
-        return;
+        return false;
     }
     let code = door::skurzelt_order_at(t, place, &mut buffer[0..n]);
-    say::numbered(b"order ", n as u64);
-    say::answer(code);
-    say::bytes(&buffer[0..n]);
+    say::filled(b"order ", code, &buffer[0..n]);
+    true
 }
 
-fn book(piece: &[u8], t: &mut [u8]) {
+fn book(piece: &[u8], t: &mut [u8]) -> bool {
     let code = door::skurzelt_book(t, piece);
-    say::text(b"book");
-    say::answer(code);
-    say::last_sum(t);
+    changed(b"book", code, t);
+    true
 }
 
-fn sheet(s: &[u8], t: &[u8]) {
+fn sheet(s: &[u8], t: &[u8]) -> bool {
     if s.len() != 4 {
-        say::bad_case();
-        return;
+        return false;
     }
     let mut out = space::output();
-    sheet_in(t, &mut out, cell::get(s, 0, 4) as usize);
+    sheet_in(t, &mut out, cell::get(s, 0, 4) as usize)
 }
 
 // The sheet, into a buffer of n bytes.
-fn sheet_in(t: &[u8], out: &mut [u8], n: usize) {
+fn sheet_in(t: &[u8], out: &mut [u8], n: usize) -> bool {
     if out.len() < n {
-        say::bad_case();
-        return;
+        return false;
     }
-    let mut written = 0;
+    let mut written = 7;
     let code = door::skurzelt_sheet(t, &mut out[0..n], &mut written);
     say::numbered(b"sheet ", n as u64);
-    say::answer(code);
-    if code == 0 {
-        say::numbered(b" ", written);
-    }
+    say::number(b" done ", code, written);
     say::sum(&out[0..n]);
+    rows(out, code, written as usize);
+    true
+}
+
+// What was written: nothing on a refusal, whatever the number says then.
+fn rows(out: &[u8], code: u32, written: usize) {
     say::text(b" [");
-    say::front(out, written as usize);
-    say::text(b"]\n");
+    if code == 0 {
+        if written <= out.len() {
+            say::text(&out[0..written]);
+        }
+    }
+    say::text(b"]");
 }

@@ -4,7 +4,7 @@ use mathlib.Core.Path.{_≡_, sym, _∙_}
 use mathlib.Core.Bool.{Bool, true, false, cond, not, _&&_}
 use mathlib.Core.List.{List, [], _∷_}
 use borrow.Author.Tests.{eq-eqb, not-true, not-false}
-use lib.Dec.{eqb, leb, ltb, leb·zero, leb·suc-suc}
+use lib.Dec.{eqb, leb, ltb, leb·zero}
 use lib.ListN.{length, drop}
 use lib.Seq.{drop-cons}
 use Rattle.field.specs.Kept.{member}
@@ -18,7 +18,7 @@ use Rattle.layout.specs.Records.{fieldsOf, typeOf, tradeOf, one}
 use Rattle.layout.specs.Rule.{code, kept, text, blank, Kind, isKind, num, run, lawful}
 use Rattle.layout.specs.declared.Record.{Record}
 use Rattle.rule.specs.ByType.{keptOn}
-use Rattle.rule.proofs.Answers.{kept-is}
+use Rattle.rule.proofs.Answers.{kept-is, price-most}
 use Rattle.writing.specs.Writes.{checkOf, checkFrom}
 use Rattle.writing.proofs.Events.{liquidity-value}
 use Rattle.writing.proofs.Fields.{rowFor, lawfulAt}
@@ -71,4 +71,4 @@ pub replaced-is : (r : Record) → length (r .replaced) ≡ 20 → keptOn (eqb (
 replaced-is r l = kind-on (eqb (typeOf (r .event)) 85) text 20 (r .replaced) l
 
 pub price-is : (v : ℕ) → (leb 0 v && leb v 9999999999) ≡ ltb v (10 ^ 10)
-price-is v = rw (leb·zero v) (sym (leb·suc-suc v 9999999999))
+price-is v = rw (leb·zero v) (price-most v)

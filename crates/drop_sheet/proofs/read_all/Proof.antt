@@ -12,11 +12,11 @@ use Rattle.drop_sheet.proofs.read_all.Statement.{statement}
 use Rattle.drop_sheet.proofs.read_all.Tie as tie
 
 abbrev Inv-loop : tie.InvT-loop
-Inv-loop t₀ hold₀ chunk₀ out₀ held₀ line₀ turns₀ t hold chunk out held line turns =
-    (sound t ≡ true) × (length hold ≡ 141) × (held ≤ 141) × (length chunk ≡ length chunk₀) × (length out ≡ length out₀)
+Inv-loop t₀ hold₀ input₀ out₀ held₀ line₀ turns₀ t hold input out held line turns =
+    (sound t ≡ true) × (length hold ≡ 141) × (held ≤ 141) × (length input ≡ length input₀) × (length out ≡ length out₀)
 
 abbrev μ-loop : tie.MeasureT-loop
-μ-loop t₀ hold₀ chunk₀ out₀ held₀ line₀ turns₀ t hold chunk out held line turns = turns
+μ-loop t₀ hold₀ input₀ out₀ held₀ line₀ turns₀ t hold input out held line turns = turns
 
 loop-holds : tie.Need-loop-holds Inv-loop μ-loop
 loop-holds c = search needs
@@ -27,17 +27,17 @@ read-requires c κs = search needs
 count-requires : tie.Need-count-requires Inv-loop μ-loop
 count-requires c κs = search needs
 
-sub-take-chunk : tie.Need-sub-take-chunk Inv-loop μ-loop
-sub-take-chunk c = search needs
+sub-take : tie.Need-sub-take Inv-loop μ-loop
+sub-take c = search needs
 
-part-take-chunk-start : tie.Need-part-take-chunk-start Inv-loop μ-loop
-part-take-chunk-start c = search needs
+part-take-start : tie.Need-part-take-start Inv-loop μ-loop
+part-take-start c = search needs
 
-part-take-chunk-end : tie.Need-part-take-chunk-end Inv-loop μ-loop
-part-take-chunk-end c = search needs
+part-take-end : tie.Need-part-take-end Inv-loop μ-loop
+part-take-end c = search needs
 
-take-chunk-requires : tie.Need-take-chunk-requires Inv-loop μ-loop
-take-chunk-requires c κs = (c .before .before .before .before .before .before .before .before .before .before .before .before .before .loop .inv .0, (search needs, (search needs, search needs)))
+take-requires : tie.Need-take-requires Inv-loop μ-loop
+take-requires c κs = (c .before .before .before .before .before .before .before .before .before .before .before .before .before .loop .inv .0, (search needs, (search needs, search needs)))
 
 sub-turns : tie.Need-sub-turns Inv-loop μ-loop
 sub-turns c = search needs
@@ -46,7 +46,7 @@ loop-less : tie.Need-loop-less Inv-loop μ-loop
 loop-less c = search needs
 
 loop-again : tie.Need-loop-again Inv-loop μ-loop
-loop-again c = (c .before .before .before .before .before .before .take-chunk .ensures .1, search needs, search needs, search needs, search needs)
+loop-again c = (c .before .before .before .before .before .before .take .ensures .1, search needs, search needs, search needs, search needs)
 
 same-length : tie.Need-same-length Inv-loop μ-loop
 same-length c =
@@ -91,10 +91,10 @@ read-all-spec =
     loop-holds
     read-requires
     count-requires
-    sub-take-chunk
-    part-take-chunk-start
-    part-take-chunk-end
-    take-chunk-requires
+    sub-take
+    part-take-start
+    part-take-end
+    take-requires
     sub-turns
     loop-less
     loop-again

@@ -15,11 +15,11 @@ run-requires c κs =
     let wide : length (c .before .before .before .before .args .s .root) ≡ 6 = search needs in
     omega arith
 
-add-put-byte : tie.Need-add-put-byte
-add-put-byte c = search needs
+add-byte : tie.Need-add-byte
+add-byte c = search needs
 
-put-byte-requires : tie.Need-put-byte-requires
-put-byte-requires c κs = search needs
+byte-requires : tie.Need-byte-requires
+byte-requires c κs = search needs
 
 add-put : tie.Need-add-put
 add-put c = search needs
@@ -45,7 +45,7 @@ returns c =
     let second = third .before .before .before .before in
     let first = second .before .before .before .before in
     let root : Stored _ _ 6 (s .root) _ = record { wide = wide; stored = first .run .ensures } in
-    let month = byte (s .month) (second .put-byte .ensures) in
+    let month = byte (s .month) (second .byte .ensures) in
     let date = number 1 (s .date) (third .put .ensures) in
     let year = number 1 (s .year) (fourth .put2 .ensures) in
     then (then (then root month) date) year .stored
@@ -56,8 +56,8 @@ put-expiry-spec =
     (tie.spec
     slice-aggregate-run
     run-requires
-    add-put-byte
-    put-byte-requires
+    add-byte
+    byte-requires
     add-put
     put-requires
     add-put-2

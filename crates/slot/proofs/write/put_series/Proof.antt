@@ -8,11 +8,11 @@ use Rattle.slot.proofs.write.put_series.Tie as tie
 put-expiry-requires : tie.Need-put-expiry-requires
 put-expiry-requires c κs = search needs
 
-add-put-byte : tie.Need-add-put-byte
-add-put-byte c = search needs
+add-byte : tie.Need-add-byte
+add-byte c = search needs
 
-put-byte-requires : tie.Need-put-byte-requires
-put-byte-requires c κs = search needs
+byte-requires : tie.Need-byte-requires
+byte-requires c κs = search needs
 
 add-put : tie.Need-add-put
 add-put c = search needs
@@ -31,7 +31,7 @@ returns c =
     let second = third .before .before .before .before in
     let first = second .before .before .before .before in
     let expiry : Stored _ _ 9 (expiryBytes s) _ = record { wide = wide; stored = first .put-expiry .ensures } in
-    let denominator = byte (s .denominator) (second .put-byte .ensures) in
+    let denominator = byte (s .denominator) (second .byte .ensures) in
     let strike = number 4 (s .strike) (third .put .ensures) in
     then (then expiry denominator) strike .stored
 
@@ -40,8 +40,8 @@ put-series-spec =
     tie.close
     (tie.spec
     put-expiry-requires
-    add-put-byte
-    put-byte-requires
+    add-byte
+    byte-requires
     add-put
     put-requires
     same-length

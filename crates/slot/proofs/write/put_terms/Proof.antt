@@ -8,11 +8,11 @@ use Rattle.slot.proofs.write.put_terms.Tie as tie
 put-key-requires : tie.Need-put-key-requires
 put-key-requires c κs = search needs
 
-add-put-byte : tie.Need-add-put-byte
-add-put-byte c = search needs
+add-byte : tie.Need-add-byte
+add-byte c = search needs
 
-put-byte-requires : tie.Need-put-byte-requires
-put-byte-requires c κs = search needs
+byte-requires : tie.Need-byte-requires
+byte-requires c κs = search needs
 
 add-put-series : tie.Need-add-put-series
 add-put-series c = search needs
@@ -41,7 +41,7 @@ returns c =
     let second = third .before .before .before .before in
     let first = second .before .before .before .before in
     let key : Stored _ _ 26 (keyBytes (o .key)) _ = record { wide = wide-key; stored = first .put-key .ensures } in
-    let side = byte (o .side) (second .put-byte .ensures) in
+    let side = byte (o .side) (second .byte .ensures) in
     let series : Stored _ _ 14 (seriesBytes (o .series)) _ = record { wide = wide-series; stored = third .put-series .ensures } in
     let price = number 8 (o .price) (fourth .put .ensures) in
     then (then (then key side) series) price .stored
@@ -51,8 +51,8 @@ put-terms-spec =
     tie.close
     (tie.spec
     put-key-requires
-    add-put-byte
-    put-byte-requires
+    add-byte
+    byte-requires
     add-put-series
     put-series-requires
     add-put

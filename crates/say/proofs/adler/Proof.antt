@@ -1,9 +1,9 @@
--- `trial::say::adler` is safe and ends: both halves of the sum stay below the modulus.
+-- `say::adler` is safe and ends: both halves of the sum stay below the modulus.
 use Prim.Native.Nat.{_-_, _≤_, _<_}
 use borrow.Author.Needs.{needs}
 use lib.ListN.{length}
-use Rattle.trial.proofs.say.adler.Statement.{statement}
-use Rattle.trial.proofs.say.adler.Tie as tie
+use Rattle.say.proofs.adler.Statement.{statement}
+use Rattle.say.proofs.adler.Tie as tie
 
 abbrev Inv-loop : tie.InvT-loop
 Inv-loop s a₀ b₀ i₀ a b i = (i ≤ length s) × (a < 65521) × (b < 65521)

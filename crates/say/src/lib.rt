@@ -1,5 +1,7 @@
-// What is printed, piece by piece.
+// What the trial program prints, piece by piece.
 ghost use Prim.Native.Nat.{_<_};
+
+pub mod show;
 
 pub fn text(s: &[u8]) {
     io::write_all(libc::STDOUT_FILENO, s);
@@ -11,22 +13,11 @@ pub fn numbered(word: &[u8], n: u64) {
     io::print_decimal(libc::STDOUT_FILENO, n);
 }
 
-pub fn bad_case() {
-    text(b"bad case\n");
-}
-
-// The first n bytes of a buffer.
-pub fn front(s: &[u8], n: usize) {
-    if n <= s.len() {
-        text(&s[0..n]);
-    }
-}
-
-// All of a buffer, in brackets, at the end of a line.
+// All of a buffer, in brackets.
 pub fn bytes(s: &[u8]) {
     text(b" [");
     text(s);
-    text(b"]\n");
+    text(b"]");
 }
 
 // refused R, with field F after a 3, from the one number that says it.
@@ -37,6 +28,26 @@ pub fn refused(code: u32) {
     }
 }
 
+// A refusal, and the numbers that were lent as it left them.
+pub fn left(code: u32, lent: &[u64]) {
+    refused(code);
+    text(b" left");
+    let mut i = 0;
+    while i < lent.len() {
+        numbered(b" ", lent[i]);
+        i += 1;
+    }
+}
+
+// The one number that was lent, behind its word where the entry is done.
+pub fn number(word: &[u8], code: u32, n: u64) {
+    if code == 0 {
+        numbered(word, n);
+        return;
+    }
+    left(code, &[n]);
+}
+
 pub fn answer(code: u32) {
     if code == 0 {
         text(b" done");
@@ -45,14 +56,15 @@ pub fn answer(code: u32) {
     }
 }
 
-pub fn sum(s: &[u8]) {
-    numbered(b" sum ", adler(s));
+// A buffer that was lent: how long it is, the answer, and all its bytes.
+pub fn filled(word: &[u8], code: u32, s: &[u8]) {
+    numbered(word, s.len() as u64);
+    answer(code);
+    bytes(s);
 }
 
-// The end of a line about a table: its sum.
-pub fn last_sum(s: &[u8]) {
-    sum(s);
-    text(b"\n");
+pub fn sum(s: &[u8]) {
+    numbered(b" sum ", adler(s));
 }
 
 // Adler-32. Both halves are cut back at each byte, so that no run is too long for them.

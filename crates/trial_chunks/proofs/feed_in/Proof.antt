@@ -1,14 +1,14 @@
--- `trial::chunks::feed_in` is safe: the table made is sound, and stays so while the chunks are booked.
+-- `trial_chunks::feed_in` is safe: the table made is sound, and stays so while the chunks are booked.
 use Prim.Native.Nat.{_-_}
 use native.Mathlib.Omega.{arith}
 use borrow.Author.Needs.{needs}
 use borrow.Rule.Slice.PartMut.{same-len-mid}
 use denote.Ref.{now}
-use Rattle.trial.proofs.chunks.feed_in.Statement.{statement}
-use Rattle.trial.proofs.chunks.feed_in.Tie as tie
+use Rattle.trial_chunks.proofs.feed_in.Statement.{statement}
+use Rattle.trial_chunks.proofs.feed_in.Tie as tie
 
-make-empty-requires : tie.Need-make-empty-requires
-make-empty-requires c κs = search needs
+begin-requires : tie.Need-begin-requires
+begin-requires c κs = search needs
 
 sub-feed-chunks : tie.Need-sub-feed-chunks
 sub-feed-chunks c = search needs
@@ -20,17 +20,14 @@ part-feed-chunks-end : tie.Need-part-feed-chunks-end
 part-feed-chunks-end c = search needs
 
 feed-chunks-requires : tie.Need-feed-chunks-requires
-feed-chunks-requires c κs = (search needs, (c .before .before .before .before .before .make-empty .ensures, (search needs, search needs)))
+feed-chunks-requires c κs = (search needs, (c .before .before .before .before .before .begin .ensures, (search needs, search needs)))
 
-finish-requires : tie.Need-finish-requires
-finish-requires c κs =
+end-requires : tie.Need-end-requires
+end-requires c κs =
     let start = c .before .before .before .before .before .before .before .before .before .before .before .before .before .before .before .before .before .before .before .before .before .before in
     let fed = c .before .before .before .before .before .before .before .before .before .feed-chunks in
     let whole = same-len-mid 0 (start .args .room - 0) (now (start .args .out)) (fed .last .1 .1 .1 .1 .0) (fed .kept .1 .1 .1 .1 .0) in
-    (fed .ensures .1 .0, (fed .ensures .1 .1, (fed .ensures .0, omega (arith, whole, start .pre .1 .1 .1 .1))))
-
-front-requires : tie.Need-front-requires
-front-requires c κs = search needs
+    (fed .ensures .1, (fed .ensures .2, (fed .ensures .0, omega (arith, whole, start .pre .1 .1 .1 .1))))
 
 same-length : tie.Need-same-length
 same-length c = search needs
@@ -48,13 +45,12 @@ pub feed-in-spec : {M : Type 1} → statement M
 feed-in-spec =
     tie.close
     (tie.spec
-    make-empty-requires
+    begin-requires
     sub-feed-chunks
     part-feed-chunks-start
     part-feed-chunks-end
     feed-chunks-requires
-    finish-requires
-    front-requires
+    end-requires
     same-length
     same-length-2
     same-length-3

@@ -1,4 +1,4 @@
--- `drop_sheet::take_chunk` meets its contract. Each step uses a byte or more of what is left of the chunk, so the turns end.
+-- `chunk::take` meets its contract. Each step uses a byte or more of what is left of the chunk, so the turns end.
 use Prim.Native.Nat.{_-_, _≤_}
 use native.Mathlib.Omega.{arith}
 use mathlib.Core.Path.{_≡_, _∙_}
@@ -10,8 +10,8 @@ use Rattle.table.specs.Tables.{sound}
 use Rattle.book.proofs.Sound.{sound-holds}
 use Rattle.feed.specs.Steps.{between, heldIn}
 use Rattle.feed.proofs.Advancing.{took}
-use Rattle.drop_sheet.proofs.take_chunk.Statement.{statement}
-use Rattle.drop_sheet.proofs.take_chunk.Tie as tie
+use Rattle.chunk.proofs.take.Statement.{statement}
+use Rattle.chunk.proofs.take.Tie as tie
 
 abbrev Inv-loop : tie.InvT-loop
 Inv-loop chunk t₀ hold₀ held line out₀ used₀ kept₀ number₀ t hold out used kept number =
@@ -82,8 +82,8 @@ same-length-3 c = search needs
 returns : tie.Need-returns Inv-loop μ-loop
 returns c = search needs
 
-pub take-chunk-spec : {M : Type 1} → statement M
-take-chunk-spec =
+pub take-spec : {M : Type 1} → statement M
+take-spec =
     tie.close
     (tie.spec
     Inv-loop

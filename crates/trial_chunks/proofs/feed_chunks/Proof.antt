@@ -1,4 +1,4 @@
--- `trial::chunks::feed_chunks` is safe and ends: no chunk is empty, and the sizes are taken from inside their bytes.
+-- `trial_chunks::feed_chunks` is safe and ends: no chunk is empty, and the sizes are taken from inside their bytes.
 use Prim.Native.Nat.{_+_, _-_, _≤_}
 use native.Mathlib.Omega.{arith}
 use mathlib.Core.Path.{_≡_, _∙_}
@@ -6,18 +6,18 @@ use mathlib.Core.Bool.{true}
 use borrow.Author.Needs.{needs}
 use lib.ListN.{length}
 use Rattle.table.specs.Tables.{sound}
-use Rattle.trial.proofs.chunks.feed_chunks.Statement.{statement}
-use Rattle.trial.proofs.chunks.feed_chunks.Tie as tie
+use Rattle.trial_chunks.proofs.feed_chunks.Statement.{statement}
+use Rattle.trial_chunks.proofs.feed_chunks.Tie as tie
 
 abbrev Inv-loop : tie.InvT-loop
-Inv-loop text sizes t₀ hold₀ out₀ at₀ turn₀ kept₀ t hold out at turn kept =
-    (at ≤ length text) × (turn + turn + 2 ≤ length sizes) × (kept .held ≤ 141) × (sound t ≡ true) × (length t ≡ length t₀)
+Inv-loop text sizes t₀ hold₀ out₀ at₀ turn₀ fed₀ t hold out at turn fed =
+    (at ≤ length text) × (turn + turn + 2 ≤ length sizes) × (fed .held ≤ 141) × (sound t ≡ true) × (length t ≡ length t₀)
     × (length hold ≡ 141)
     × (46 ≤ length out)
     × (length out ≡ length out₀)
 
 abbrev μ-loop : tie.MeasureT-loop
-μ-loop text sizes t₀ hold₀ out₀ at₀ turn₀ kept₀ t hold out at turn kept = length text - at
+μ-loop text sizes t₀ hold₀ out₀ at₀ turn₀ fed₀ t hold out at turn fed = length text - at
 
 loop-holds : tie.Need-loop-holds Inv-loop μ-loop
 loop-holds c = search needs
@@ -28,20 +28,20 @@ sub-chunk-length c = search needs
 chunk-length-requires : tie.Need-chunk-length-requires Inv-loop μ-loop
 chunk-length-requires c κs = search needs
 
-add-feed-chunk : tie.Need-add-feed-chunk Inv-loop μ-loop
-add-feed-chunk c = search needs
+add-take : tie.Need-add-take Inv-loop μ-loop
+add-take c = search needs
 
-sub-feed-chunk : tie.Need-sub-feed-chunk Inv-loop μ-loop
-sub-feed-chunk c = search needs
+sub-take : tie.Need-sub-take Inv-loop μ-loop
+sub-take c = search needs
 
-part-feed-chunk-start : tie.Need-part-feed-chunk-start Inv-loop μ-loop
-part-feed-chunk-start c = search needs
+part-take-start : tie.Need-part-take-start Inv-loop μ-loop
+part-take-start c = search needs
 
-part-feed-chunk-end : tie.Need-part-feed-chunk-end Inv-loop μ-loop
-part-feed-chunk-end c = search needs
+part-take-end : tie.Need-part-take-end Inv-loop μ-loop
+part-take-end c = search needs
 
-feed-chunk-requires : tie.Need-feed-chunk-requires Inv-loop μ-loop
-feed-chunk-requires c κs = let inv = c .before .before .before .before .before .before .loop .inv in (inv .3, (inv .5, (inv .2, inv .6)))
+take-requires : tie.Need-take-requires Inv-loop μ-loop
+take-requires c κs = let inv = c .before .before .before .before .before .before .loop .inv in (inv .3, (inv .5, (inv .2, inv .6)))
 
 add-at : tie.Need-add-at Inv-loop μ-loop
 add-at c = search needs
@@ -54,16 +54,16 @@ loop-less c = search needs
 
 loop-again : tie.Need-loop-again Inv-loop μ-loop
 loop-again c =
-    let fed = c .before .before .before .before .before .before .before .feed-chunk in
+    let one = c .before .before .before .before .before .before .before .take in
     let inv = c .before .before .before .before .before .before .before .before .before .before .before .before .before .before .loop .inv in (
       search needs,
       omega (arith, c .next-turn .ensures),
-      fed .ensures .0,
-      fed .ensures .1 .0,
-      fed .kept .1 .0 ∙ inv .4,
-      fed .ensures .1 .1,
-      omega (arith, fed .kept .1 .1 .1 .1 .0, inv .6),
-      fed .kept .1 .1 .1 .1 .0 ∙ inv .7,
+      one .ensures .0,
+      one .ensures .1,
+      one .kept .1 .0 ∙ inv .4,
+      one .ensures .2,
+      omega (arith, one .kept .1 .1 .1 .1 .1 .0, inv .6),
+      one .kept .1 .1 .1 .1 .1 .0 ∙ inv .7,
     )
 
 same-length : tie.Need-same-length Inv-loop μ-loop
@@ -87,11 +87,11 @@ feed-chunks-spec =
     loop-holds
     sub-chunk-length
     chunk-length-requires
-    add-feed-chunk
-    sub-feed-chunk
-    part-feed-chunk-start
-    part-feed-chunk-end
-    feed-chunk-requires
+    add-take
+    sub-take
+    part-take-start
+    part-take-end
+    take-requires
     add-at
     next-turn-requires
     loop-less

@@ -1,9 +1,9 @@
--- `trial::chunks::any_zero` is safe and ends: each size that it looks at is inside.
+-- `trial_chunks::any_zero` is safe and ends: each size that it looks at is inside.
 use Prim.Native.Nat.{_-_, _*_, _≤_}
 use borrow.Author.Needs.{needs}
 use lib.ListN.{length}
-use Rattle.trial.proofs.chunks.any_zero.Statement.{statement}
-use Rattle.trial.proofs.chunks.any_zero.Tie as tie
+use Rattle.trial_chunks.proofs.any_zero.Statement.{statement}
+use Rattle.trial_chunks.proofs.any_zero.Tie as tie
 
 abbrev Inv-loop : tie.InvT-loop
 Inv-loop sizes i₀ i = i * 2 ≤ length sizes

@@ -1,0 +1,96 @@
+// A text through the sheet program's run in chunks of given sizes, for the trial.
+ghost use Prim.Native.Nat.{_+_, _≤_, _<_};
+ghost use mathlib.Core.Path.{_≡_};
+ghost use mathlib.Core.Bool.{true};
+ghost use lib.ListN.{length};
+ghost use Rattle.table.specs.Tables.{sound};
+use chunk::Kept;
+
+// Whether one of the sizes, of two bytes each, is 0.
+pub fn any_zero(sizes: &[u8]) -> bool {
+    let mut i = 0;
+    while i < sizes.len() / 2 {
+        if cell::zeros(sizes, i * 2, 2) {
+            return true;
+        }
+        i += 1;
+    }
+    false
+}
+
+// All that the sheet program writes for the text; each step may write room bytes.
+pub fn feed_all(text: &[u8], sizes: &[u8], room: usize)
+    requires { ⌜ 2 ≤ length (now sizes) ⌝ }
+    requires { ⌜ (64 ≤ room) × (room ≤ 60000) ⌝ }
+{
+    let mut table = [0u8; 40_968];
+    let mut hold = [0u8; 141];
+    let mut out = output();
+    feed_in(text, sizes, room, &mut table, &mut hold, &mut out);
+}
+
+// In lent buffers. Each step may write room bytes; what comes at the end may be longer.
+fn feed_in(text: &[u8], sizes: &[u8], room: usize, t: &mut [u8], hold: &mut [u8], out: &mut [u8])
+    requires { ⌜ 2 ≤ length (now sizes) ⌝ }
+    requires { ⌜ (64 ≤ room) × (room ≤ 60000) ⌝ }
+    requires { ⌜ length (now t) ≡ 40968 ⌝ }
+    requires { ⌜ length (now hold) ≡ 141 ⌝ }
+    requires { ⌜ length (now out) ≡ 60000 ⌝ }
+{
+    chunk::begin(t);
+    let kept = feed_chunks(text, sizes, t, hold, &mut out[0..room]);
+    chunk::end(t, hold, kept.held, kept.line, out);
+}
+
+// The sizes are taken in turn, and from the first again when they are used up.
+fn feed_chunks(text: &[u8], sizes: &[u8], t: &mut [u8], hold: &mut [u8], out: &mut [u8]) -> Kept
+    requires { ⌜ 2 ≤ length (now sizes) ⌝ }
+    requires { ⌜ sound (now t) ≡ true ⌝ }
+    requires { ⌜ length (now hold) ≡ 141 ⌝ }
+    requires { ⌜ 46 ≤ length (now out) ⌝ }
+    ensures { λ r. ⌜ (r .held ≤ 141) × (sound (now (t .exit)) ≡ true) × (length (now (hold .exit)) ≡ 141) ⌝ }
+{
+    let mut at = 0;
+    let mut turn = 0;
+    let mut kept = Kept { held: 0, line: 1 };
+    while at < text.len() {
+        let n = chunk_length(sizes, turn, text.len() - at);
+        kept = chunk::take(&text[at..at + n], t, hold, kept.held, kept.line, out);
+        at += n;
+        turn = next_turn(turn, sizes.len() / 2);
+    }
+    kept
+}
+
+// The size, or what is left where that is less. A size of 0, which no case has, counts as what is left, so that every chunk goes on.
+fn chunk_length(sizes: &[u8], turn: usize, left: usize) -> usize
+    requires { ⌜ turn + turn + 2 ≤ length (now sizes) ⌝ }
+    requires { ⌜ 0 < left ⌝ }
+    ensures { λ r. ⌜ (0 < r) × (r ≤ left) ⌝ }
+{
+    let size = cell::get(sizes, turn * 2, 2) as usize;
+    if size == 0 {
+        return left;
+    }
+    if left < size {
+        return left;
+    }
+    size
+}
+
+fn next_turn(turn: usize, count: usize) -> usize
+    requires { ⌜ turn < count ⌝ }
+    ensures { λ r. ⌜ r < count ⌝ }
+{
+    if turn + 1 < count {
+        return turn + 1;
+    }
+    0
+}
+
+// Room for the longest output. The `ensures` is what lending the array needs.
+fn output() -> [u8; 60_000]
+    ensures { λ r. ⌜ 60000 ≡ length r ⌝ }
+{
+    [0; 60_000]
+}
