@@ -1,5 +1,6 @@
 -- `stored::sound_order` meets its contract.
 use borrow.Author.Needs.{needs}
+use Rattle.stored.proofs.Fields.{order-sound}
 use Rattle.stored.proofs.sound_order.Statement.{statement}
 use Rattle.stored.proofs.sound_order.Tie as tie
 
@@ -19,7 +20,9 @@ sound-figures-requires : tie.Need-sound-figures-requires
 sound-figures-requires c κs = search needs
 
 returns : tie.Need-returns
-returns c = cc
+returns c =
+    let o = c .before .before .before .before .before .before .before .before .before .args .o in
+    order-sound o _ _ _ _ (c .before .before .before .before .before .lawful-key .ensures) (c .before .before .before .member .ensures) (c .before .before .lawful-series .ensures) (c .sound-figures .ensures)
 
 pub sound-order-spec : {M : Type 1} → statement M
 sound-order-spec =
