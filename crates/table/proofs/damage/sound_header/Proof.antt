@@ -1,5 +1,10 @@
 -- `table::damage::sound_header` meets its contract.
+use mathlib.Core.Path.{ap}
+use mathlib.Core.Bool.{Bool, _&&_}
 use borrow.Author.Needs.{needs}
+use denote.Ref.{now}
+use lib.Dec.{leb}
+use lib.ListN.{getD}
 use Rattle.table.proofs.damage.sound_header.Statement.{statement}
 use Rattle.table.proofs.damage.sound_header.Tie as tie
 
@@ -10,7 +15,7 @@ zeros-requires : tie.Need-zeros-requires
 zeros-requires c κs = search needs
 
 returns : tie.Need-returns
-returns c = cc
+returns c = ap (λ (b : Bool). leb (getD (now (c .before .before .before .args .t)) 4 0) 1 && b) (c .zeros .ensures)
 
 pub sound-header-spec : {M : Type 1} → statement M
 sound-header-spec = tie.close (tie.spec shared-slice-read-result zeros-requires returns)
