@@ -26,7 +26,7 @@ finish-requires c κs = search needs
 say-requires : tie.Need-say-requires
 say-requires c κs =
     let a = c .before .before .before .before .before .before .before .before .before .before .before .args in
-    written-inside (heldIn (now (a .hold)) (a .held)) (a .line) (now (a .t)) (now (a .out)) (search needs) (search needs) (c .before .before .before .before .before .finish .ensures)
+    written-inside (heldIn (now (a .hold)) (a .held)) (a .line) (now (a .t)) (now (a .out)) (search needs) (search needs) (c .before .before .before .before .before .finish .ensures .0)
 
 same-length : tie.Need-same-length
 same-length c = search needs
