@@ -1,13 +1,13 @@
--- The tender's demand 2, proved: lawful lines and lawful records are one to one, and everything else is refused by the first rule it breaks.
+-- The tender's demand 2, proved of the written rules: lawful lines and lawful records are one to one, and everything else is refused by the first rule it breaks.
 use mathlib.Core.Path.{refl, sym, _∙_}
 use Rattle.layout.specs.Demand2.{keeps, holds, Demand2}
-use Rattle.layout.specs.Line.{line}
+use Rattle.layout.specs.Line.{line, read, write, lineOf}
 use Rattle.layout.proofs.Answers.{end-read, no-line-read, bad-byte-read, fields-read, lawful-read, read-says, read-back, written-reads}
 use Rattle.layout.proofs.Answers.{no-room-write, fields-write, write-says}
 use Rattle.layout.proofs.First.{every-judged, first-judged}
 use Rattle.layout.proofs.Lines.{recordIn}
 
-pub demand2 : Demand2
+pub demand2 : Demand2 read write lineOf
 demand2 =
     record {
       lawful-reads = λ s. (λ h. (recordIn s, lawful-read s h), λ h. read-says s (h .1) .0);

@@ -1,13 +1,13 @@
--- The tender's demand 2, said of the written rules, in the order of its sentences. proofs/Demand2.antt proves it.
+-- The tender's demand 2, in the order of its sentences, of any reader and any writer. proofs/Demand2.antt proves it of the written rules.
 use Prim.Native.Nat.{ℕ, _-_, _≤_, _<_}
 use mathlib.Core.Path.{_≡_}
 use mathlib.Core.Bool.{Bool, true, false}
 use mathlib.Core.List.{List}
 use mathlib.Core.Logic.{_⊎_, _↔_}
 use lib.ListN.{length, getD}
-use Rattle.refusal.specs.Answer.{value, refused}
+use Rattle.refusal.specs.Answer.{Answer, value, refused}
 use Rattle.layout.specs.Layout.{Row, row, part}
-use Rattle.layout.specs.Line.{line, endOfDay, crlf, isLine, printable, rowsOf, rowsFor, read, write, lineOf}
+use Rattle.layout.specs.Line.{Said, line, endOfDay, crlf, isLine, printable, rowsOf, rowsFor}
 use Rattle.layout.specs.Records.{fieldsOf}
 use Rattle.layout.specs.Rule.{num, Got, got, broken, kept, blank, reads, lawful}
 use Rattle.layout.specs.declared.Record.{Record}
@@ -44,7 +44,7 @@ pub record First (test : ℕ → Bool) (n : ℕ) : Type 0 where
   pub fails : test n ≡ false
   pub before : (m : ℕ) → 1 ≤ m → m < n → test m ≡ true
 
-pub record Demand2 : Type 0 where
+pub record Demand2 (read : List ℕ → Answer Said) (write : Record → List ℕ → Answer (Unit {0})) (lineOf : Record → List ℕ) : Type 0 where
   -- "Each lawful line gives exactly one record": a piece reads as a record exactly when it is lawful
   pub lawful-reads : (s : List ℕ) → LawfulLine s ↔ ((r : Record) × (read s ≡ value (line r)))
   -- "each lawful record exactly that line back": the record is lawful and writes to the very bytes
