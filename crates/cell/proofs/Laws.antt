@@ -7,9 +7,9 @@ use mathlib.Core.Bool.{true, and-eq-true-iff}
 use mathlib.Core.List.{List, [], _∷_, append-assoc}
 use borrow.Author.Tests.{ltb-true}
 use lib.Dec.{ltb}
-use lib.ListN.{length, getD, take, drop, set, length-drop, take-append-drop}
-use lib.Seq.{length-take-le, getD-take, getD-drop, take-take, drop-drop, take-add, take-at, drop-at}
-use lib.Seq.{take-set-le, drop-set-lt, drop-set-add, set-set, set-comm, sets, sets-eq}
+use lib.ListN.{length, getD, take, drop, set, length-drop}
+use lib.Seq.{length-take-le, getD-take, getD-drop, take-take, drop-drop, take-at, drop-at}
+use lib.Seq.{take-set-le, drop-set-lt, drop-set-add, sets, sets-eq}
 use Rattle.field.specs.Byte.{all}
 use Rattle.layout.specs.Layout.{part}
 use Rattle.cell.specs.Cells.{le, leBytes}
@@ -26,10 +26,6 @@ le-written (suc w) v h = rw (le-written w (v / 256) (omega (arith, pow-suc 256 w
 
 first-byte : (b : ℕ) (s : List ℕ) → all (λ b. ltb b 256) (b ∷ s) ≡ true → (b < 256) × (all (λ b. ltb b 256) s ≡ true)
 first-byte b s e = let h = and-eq-true-iff (ltb b 256) (all (λ b. ltb b 256) s) .0 e in (ltb-true b 256 (h .0), h .1)
-
-pub le-below : (s : List ℕ) → all (λ b. ltb b 256) s ≡ true → le s < 256 ^ length s
-le-below [] e = omega arith
-le-below (b ∷ s) e = let h = first-byte b s e in omega (arith, le-below s (h .1), pow-suc 256 (length s))
 
 pub le-read : (s : List ℕ) → all (λ b. ltb b 256) s ≡ true → leBytes (length s) (le s) ≡ s
 le-read [] e = refl
@@ -90,31 +86,3 @@ part-inside l xs at i w h k m =
     let e : at + (i - at) ≡ i = omega arith in
     rw e at (sym (part-part (sets l at xs) at (length xs) (i - at) w (omega arith)))
     ∙ ap (λ s. part s (i - at) w) (part-whole l xs at (length xs) h refl)
-
--- ---- runs of stores
-
-pub sets-part : (l : List ℕ) (at w : ℕ) → at + w ≤ length l → sets l at (part l at w) ≡ l
-sets-part l at w h =
-    let e = length-part l at w h in
-    rw (sets-eq (part l at w) l at (rw e h), e, ← take-add, take-append-drop)
-
--- a store before a run may be made after it
-store-before : (l xs : List ℕ) (at i b : ℕ) → at < i → set (sets l i xs) at b ≡ sets (set l at b) i xs
-store-before l [] at i b h = refl
-store-before l (x ∷ xs) at i b h =
-    store-before (set l i x) xs at (suc i) b (omega arith)
-    ∙ ap (λ m. sets m (suc i) xs) (set-comm l i at x b (λ e. omega arith))
-
-pub sets-sets-same : (l xs ys : List ℕ) (at : ℕ) → length xs ≡ length ys → sets (sets l at xs) at ys ≡ sets l at ys
-sets-sets-same l [] [] at e = refl
-sets-sets-same l [] (y ∷ ys) at e = absurd (omega arith)
-sets-sets-same l (x ∷ xs) [] at e = absurd (omega arith)
-sets-sets-same l (x ∷ xs) (y ∷ ys) at e =
-    rw (store-before (set l at x) xs at (suc at) y (omega arith), set-set)
-    (sets-sets-same (set l at y) xs ys (suc at) (omega arith))
-
-pub sets-comm : (l xs ys : List ℕ) (at i : ℕ) → at + length xs ≤ i → sets (sets l at xs) i ys ≡ sets (sets l i ys) at xs
-sets-comm l [] ys at i h = refl
-sets-comm l (x ∷ xs) ys at i h =
-    sets-comm (set l at x) xs ys (suc at) i (omega arith)
-    ∙ ap (λ m. sets m (suc at) xs) (sym (store-before l ys at i x (omega arith)))

@@ -13,7 +13,7 @@ use lib.Seq.{take-at, drop-at}
 use Rattle.field.specs.Number.{digitsAfter, loneZero, spaced, within, dollars, price, rest, filled, priceText}
 use Rattle.field.specs.declared.Number.{Number}
 use Rattle.field.specs.declared.Number.the-variants.{Value, Bad}
-use Rattle.field.proofs.Fill.{between, is-between, bad-value, guarded, first-digit, digits-then, digit-read, filled-read}
+use Rattle.field.proofs.Fill.{between, bad-value, guarded, first-digit, digits-then, digit-read, filled-read}
 use Rattle.field.proofs.Fill.{Written, length-snoc, snoc-written, digits-written}
 
 -- ---- how large a number of so many digits is
@@ -36,16 +36,6 @@ within-value least most (Value u) v e =
     let same : u ≡ v = cc in
     (g .1, omega arith, omega arith)
 within-value least most Bad v e = absurd (bad-value e)
-
-pub value-within : (least most v : ℕ) → least ≤ v → v ≤ most → within least most (Value v) ≡ Value v
-value-within least most v h k = rw (is-between least most v h k)
-
-pub within-bad : (least most v : ℕ) → (least ≤ v → v ≤ most → ⊥) → within least most (Value v) ≡ Bad
-within-bad least most v h = go (leb least v && leb v most) refl
-  where
-    go : (t : Bool) → (leb least v && leb v most) ≡ t → cond t (Value v) Bad ≡ Bad
-    go true e = let b = between least most v e in absurd (h (b .0) (b .1))
-    go false e = refl
 
 -- ---- what is written is as wide as asked
 
@@ -149,26 +139,20 @@ price-written a c m n h x y =
     rw l (rw (k, q, r, x .0) (ap (λ (t : List ℕ). a ++ t) (rw h at (y .0))), omega (arith, four-more (length a)))
 
 -- a price that is read has a number before its four digits, and is as it is written
-price-taken : (s : List ℕ) (v : ℕ) → price s ≡ Value v → (5 ≤ length s) × Written priceText s v
-price-taken s v e = go (spaced (take i s)) (digitsAfter 0 (drop i s)) refl refl e
+pub price-write : (s : List ℕ) (v : ℕ) → price s ≡ Value v → (priceText (length s) v ≡ s) × (v < 10 ^ length s)
+price-write s v e = go (spaced (take i s)) (digitsAfter 0 (drop i s)) refl refl e
   where
     i : ℕ
     i = length s - 4
 
-    go : (x y : Number) → spaced (take i s) ≡ x → digitsAfter 0 (drop i s) ≡ y → dollars x y ≡ Value v → (5 ≤ length s) × Written priceText s v
+    go : (x y : Number) → spaced (take i s) ≡ x → digitsAfter 0 (drop i s) ≡ y → dollars x y ≡ Value v → Written priceText s v
     go (Value m) (Value n) p q e =
         let some : 0 < length (take i s) = spaced-some (take i s) m p in
         let long : 5 ≤ length s = omega (arith, length-take i s) in
         let four : length (drop i s) ≡ 4 = omega (arith, length-drop i s) in
         let same : m * 10000 + n ≡ v = cc in
         let parts = price-written (take i s) (drop i s) m n four (spaced-write (take i s) m p) (digits-write (drop i s) n q) in
-        (long, rw (take-append-drop i s, same) at parts)
+        rw (take-append-drop i s, same) at parts
     go (Value m) Bad p q e = absurd (bad-value e)
     go Bad (Value n) p q e = absurd (bad-value e)
     go Bad Bad p q e = absurd (bad-value e)
-
-pub price-write : (s : List ℕ) (v : ℕ) → price s ≡ Value v → (priceText (length s) v ≡ s) × (v < 10 ^ length s)
-price-write s v e = price-taken s v e .1
-
-pub price-some : (s : List ℕ) (v : ℕ) → price s ≡ Value v → 5 ≤ length s
-price-some s v e = price-taken s v e .0
