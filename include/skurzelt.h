@@ -23,7 +23,7 @@ extern "C" {
 enum {
     SKURZELT_NO_LINE = 1,       /* neither CR LF alone nor 140 bytes ending in CR LF */
     SKURZELT_BAD_BYTE = 2,      /* one of the 138 bytes is outside 20 to 7E hex */
-    SKURZELT_FIELD = 3,         /* a field breaks its rule; the first one is named */
+    SKURZELT_FIELD = 3,         /* a field breaks its rule, or a byte of it has no meaning; the first one is named */
     SKURZELT_NO_ROOM = 4,       /* the lent buffer is too short */
     SKURZELT_DAMAGED = 5,       /* the table is damaged */
     SKURZELT_DAY_OVER = 6,      /* end of day was booked before */

@@ -111,6 +111,7 @@ cancelledOf k h = sumOf isCancel k h
 abbrev pub grants : History → Record → ℕ
 grants h r = r .contracts
 
+-- the size of an order: what the line that made it granted. It is the latest with the key, and refusal 7 leaves no other
 abbrev pub sizeOf : Key → History → ℕ
 sizeOf k [] = 0
 sizeOf k (endOfDay ∷ h) = sizeOf k h

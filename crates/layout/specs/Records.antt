@@ -21,6 +21,7 @@ typeOf (Broken t) = 67
 typeOf Replaced = 85
 typeOf Repriced = 82
 
+-- of one of the six types; any other byte gives R, and who asks for a record has refused it (field 2)
 abbrev pub eventOf : ℕ → Trade → Event
 eventOf t trade =
     cond (eqb t 65) Accepted
@@ -146,7 +147,7 @@ recordOf vs =
 abbrev pub eventFrom : Numbers → List ℕ → Event
 eventFrom n s = eventOf (getD s 8 0) (record { liquidity = getD s 15 0; «match_id» = n .«match_id»; «cross_id» = n .«cross_id» })
 
--- the record of a line whose fields all keep their rules
+-- the record that bytes say at the places of the layout, its numbers read apart: of a line, or of the bytes that a host gives
 abbrev pub recordFrom : Numbers → List ℕ → Record
 recordFrom n s =
     record {

@@ -1,4 +1,4 @@
-// The record of a line whose fields all keep their rules.
+// The record that bytes say at the places of the layout, its numbers read apart.
 ghost use Prim.Native.Nat.{_≤_};
 ghost use mathlib.Core.Path.{_≡_};
 ghost use lib.ListN.{length};
@@ -117,7 +117,7 @@ fn event(s: &[u8], n: Numbers) -> Event
     event_of(s[8], trade)
 }
 
-// Of a line or of its first 138 bytes.
+// Of a line, or of the 138 bytes that a host gives, lawful or not.
 pub fn record_of(s: &[u8], n: Numbers) -> Record
     requires { ⌜ 138 ≤ length (now s) ⌝ }
     ensures { λ r. ⌜ r ≡ recordFrom n (now (s .entry)) ⌝ }

@@ -1,4 +1,5 @@
-// A reader over lent text. The borrow checker covers no function over such a struct: each is thin, and proved by hand.
+// A reader over lent text. The borrow checker covers no function over such a struct, so each is proved by hand: four are thin, and `count` and `nth`
+// stand above them with plain parameters, for callers.
 ghost use mathlib.Core.Path.{_≡_};
 ghost use lib.ListN.{length};
 ghost use Rattle.piece.specs.Pieces.{pieces};
@@ -46,7 +47,7 @@ pub fn past<'a>(r: Reader<'a>) -> Reader<'a>
     }
 }
 
-// How many pieces a text has. Its parameter is a plain text, so a caller needs no walk.
+// How many pieces a text has.
 pub fn count(text: &[u8]) -> usize
     ensures { λ n. ⌜ n ≡ length (pieces (now (text .entry))) ⌝ }
 {
@@ -59,7 +60,7 @@ pub fn count(text: &[u8]) -> usize
     n
 }
 
-// The piece with a number, counted from 0, in the lent text itself; empty where the text has no such piece. As with `count`, a caller needs no walk.
+// The piece with a number, counted from 0, in the lent text itself; empty where the text has no such piece.
 pub fn nth<'a>(text: &'a [u8], n: usize) -> &'a [u8]
     ensures { λ p. ⌜ Numbered (text .entry) n p ⌝ }
 {

@@ -1,4 +1,5 @@
-// Runs the entries of the door on cases from standard input, for the comparison with the second program (docs/TRIAL.md).
+// Runs the entries of the door, the reader and the steps of the sheet program on cases from standard input, for the comparison with the second
+// program (docs/TRIAL.md).
 mod ask;
 mod chunks;
 mod space;
