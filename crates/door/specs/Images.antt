@@ -56,8 +56,8 @@ recordIn b = recordFrom (numbersIn b) b
 abbrev pub sooner : ℕ → ℕ → ℕ
 sooner m n = cond (eqb m 0) n (cond (eqb n 0) m (cond (ltb n m) n m))
 
--- the field that stands in the way of writing, or 0: the first with a byte without meaning or a broken rule. A record of another length says none.
--- The lesser is the first: no rule before 6, 22, 23 or 24 looks at a byte of theirs; a type without meaning reads as R, and only field 1 stands before it.
+-- the field that stands in the way of writing, or 0: the first with a byte without meaning or a broken rule, which is the lesser (specs/FirstField.antt).
+-- A record of another length says none.
 unfoldable pub unwritable : List ℕ → ℕ
 unwritable b = cond (eqb (length b) 138) (sooner (unmeant b) (unlawful (recordIn b))) 24
 
