@@ -6,9 +6,7 @@ use mathlib.Core.Bool.{Bool, true, false, cond, not, _&&_, false≢true}
 use mathlib.Core.List.{List}
 use mathlib.Core.Logic.{inl, inr, ⊎-elim}
 use lib.Dec.{ltb, leb, eqb}
-use lib.ListN.{length, getD, replicate}
-use Rattle.cell.specs.Cells.{isZero}
-use Rattle.field.specs.Byte.{all}
+use lib.ListN.{length, replicate}
 use Rattle.field.specs.Kept.{member}
 use Rattle.field.proofs.Fill.{between, is-between}
 use Rattle.refusal.specs.Answer.{Answer, value, refused, refusedBy}
@@ -17,7 +15,7 @@ use Rattle.refusal.specs.declared.Refusal.{Refusal}
 use Rattle.refusal.specs.declared.Refusal.the-variants.{NoLine, BadByte, Field, NoRoom, Damaged, DayOver, KnownKey, UnknownKey, OtherSeries, NotOpen, NotExecuted, Full}
 use Rattle.layout.specs.Clocks.{clock}
 use Rattle.layout.specs.Demand2.{First}
-use Rattle.layout.specs.Layout.{part, timestamp, types, denominators}
+use Rattle.layout.specs.Layout.{timestamp, denominators}
 use Rattle.layout.specs.Line.{Said, endOfDay, line, outAfter, unlawful}
 use Rattle.layout.specs.Line.{read as readLine}
 use Rattle.layout.specs.Rule.{num, lawful}
@@ -37,7 +35,7 @@ use Rattle.book.specs.Bytes.{bookAnswer}
 use Rattle.book.proofs.Refuted.{refusal-stays}
 use Rattle.sheet.specs.Promises.{textOf, sheetAnswer, sheetFrom}
 use Rattle.door.specs.Demand1.{Answers, Refuses, Demand1}
-use Rattle.door.specs.Images.{oddLiquidity, oddId, unmeant, recordIn, sooner, unwritable}
+use Rattle.door.specs.Images.{odd, unmeant, recordIn, sooner, unwritable}
 use Rattle.door.specs.Promises.{codeOf, numberAfter, readAnswer, kindOf, recordAfter, writeAnswer}
 
 -- ---- a value, or a numbered refusal
@@ -89,10 +87,9 @@ OfField n = eqb n 0 ≡ false → Told {A = Unit {0}} (refused 3 n)
 unmeant-told : (b : List ℕ) → OfField (unmeant b)
 unfolding unmeant
 unmeant-told b =
-    both OfField (not (member (getD b 8 0) types)) (λ e. field 2 refl)
-    (both OfField (oddLiquidity b) (λ e. field 6 refl)
-    (both OfField (not (all isZero (part b 118 2))) (λ e. field 22 refl)
-    (both OfField (oddId b 120) (λ e. field 23 refl) (both OfField (oddId b 129) (λ e. field 24 refl) none))))
+    both OfField (odd b 2) (λ e. field 2 refl)
+    (both OfField (odd b 6) (λ e. field 6 refl)
+    (both OfField (odd b 22) (λ e. field 22 refl) (both OfField (odd b 23) (λ e. field 23 refl) (both OfField (odd b 24) (λ e. field 24 refl) none))))
 
 -- as a buffer that has the room is told
 unlawful-told : (r : Record) → OfField (unlawful r)

@@ -3,6 +3,7 @@ pub mod Back
 pub mod Cells
 pub mod Demand1
 pub mod Determined
+pub mod Foremost
 pub mod Forth
 pub mod Odd
 pub mod Readings

@@ -1,6 +1,6 @@
 -- docs/LAYOUT.md, A record: the bytes as which a record crosses to a host and back.
 use Prim.Native.Nat.{ℕ, _+_}
-use mathlib.Core.Bool.{Bool, cond, not, _&&_, _||_}
+use mathlib.Core.Bool.{Bool, false, cond, not, _&&_, _||_}
 use mathlib.Core.List.{List}
 use lib.Dec.{ltb, eqb}
 use lib.ListN.{length, getD, take}
@@ -37,12 +37,16 @@ oddLiquidity b = not (isTrade (getD b 8 0)) && not (eqb (getD b 15 0) 32)
 abbrev pub oddId : List ℕ → ℕ → Bool
 oddId b at = not (eqb (getD b (at + 8) 0) 0) || not (isTrade (getD b 8 0)) && not (eqb (le (part b at 8)) 0)
 
--- the field of the first byte without meaning of 138 bytes, or 0
+-- field n has a byte without meaning: a type that is none of the six letters (2), a liquidity (6), the last two bytes of the price (22), an id (23, 24)
+abbrev pub odd : List ℕ → ℕ → Bool
+odd b n =
+    cond (eqb n 2) (not (member (getD b 8 0) types))
+    (cond (eqb n 6) (oddLiquidity b)
+    (cond (eqb n 22) (not (all isZero (part b 118 2))) (cond (eqb n 23) (oddId b 120) (cond (eqb n 24) (oddId b 129) false))))
+
+-- the first field with a byte without meaning of 138 bytes, or 0
 unfoldable pub unmeant : List ℕ → ℕ
-unmeant b =
-    cond (not (member (getD b 8 0) types)) 2
-    (cond (oddLiquidity b) 6
-    (cond (not (all isZero (part b 118 2))) 22 (cond (oddId b 120) 23 (cond (oddId b 129) 24 0))))
+unmeant b = cond (odd b 2) 2 (cond (odd b 6) 6 (cond (odd b 22) 22 (cond (odd b 23) 23 (cond (odd b 24) 24 0))))
 
 -- the record that the bytes say
 unfoldable pub recordIn : List ℕ → Record
@@ -52,8 +56,8 @@ recordIn b = recordFrom (numbersIn b) b
 abbrev pub sooner : ℕ → ℕ → ℕ
 sooner m n = cond (eqb m 0) n (cond (eqb n 0) m (cond (ltb n m) n m))
 
--- the field that stands in the way of writing, or 0: the first with a byte without meaning or a broken rule. A record of another length says none.
--- The lesser is the first: no rule before 6, 22, 23 or 24 looks at a byte of theirs; a type without meaning reads as R, and only field 1 stands before it.
+-- the field that stands in the way of writing, or 0: the first with a byte without meaning or a broken rule, which is the lesser (specs/FirstField.antt).
+-- A record of another length says none.
 unfoldable pub unwritable : List ℕ → ℕ
 unwritable b = cond (eqb (length b) 138) (sooner (unmeant b) (unlawful (recordIn b))) 24
 

@@ -1,4 +1,5 @@
 pub mod Demand1
+pub mod FirstField
 pub mod Images
 pub mod Promises
 pub mod RoundTrip
