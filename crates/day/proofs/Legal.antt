@@ -1,9 +1,10 @@
 -- Legal histories: no key is made twice, and whoever a line speaks of was made before.
 use mathlib.Core.Path.{_≡_, refl, sym, subst, _∙_}
 use mathlib.Core.Logic.{_⊎_, inl, inr}
-use mathlib.Core.Bool.{Bool, true, false, not, _&&_, _||_, false≢true, and-false, or-true}
+use mathlib.Core.Bool.{Bool, true, false, not, _&&_, false≢true, and-false, or-true}
 use mathlib.Core.List.{[], _∷_, List·Memᴰ, List·Memᴰ·not-nil, List·Memᴰ·append-cases, List·Memᴰ·eq-of-singleton}
 use borrow.Author.Tests.{not-true}
+use Rattle.layout.proofs.Rules.{neither}
 use Rattle.layout.specs.Line.{endOfDay, line}
 use Rattle.layout.specs.declared.Event.{Event}
 use Rattle.layout.specs.declared.Event.the-variants.{Accepted, Executed, Cancelled, Broken, Replaced, Repriced}
@@ -36,10 +37,6 @@ replace-old Repriced q = refl
 
 pub elder-known : (h : History) (r : Record) → Follows h r → isReplace (r .event) ≡ true → known (elderKeyOf r) h ≡ true
 elder-known h r f q = rw q at (f .named (replace-old (r .event) q))
-
-neither : (a b : Bool) → (a || b) ≡ false → (a ≡ false) × (b ≡ false)
-neither true b e = absurd (false≢true (sym e))
-neither false b e = (refl, e)
 
 own-known : (h : History) (r : Record) → Follows h r → isMaker (r .event) ≡ false → known (keyOf r) h ≡ true
 own-known h r f q =

@@ -2,13 +2,13 @@
 use Prim.Native.Nat.{ℕ, zero, suc, _+_, _-_, _≤_, _<_}
 use native.Mathlib.Omega.{arith}
 use mathlib.Core.Path.{_≡_, refl, sym, ap, _∙_}
-use mathlib.Core.Bool.{Bool, true, false, cond, not, _||_, true≢false, false≢true, or-true, or-false, or-assoc}
+use mathlib.Core.Bool.{Bool, true, false, cond, not, _||_, false≢true, or-true, or-false, or-assoc}
 use mathlib.Core.List.{List, [], _∷_, _++_, map}
 use borrow.Author.Tests.{leb-true, le-leb, eqb-true, eq-eqb, eqb-false, ne-eqb, not-true}
 use lib.Dec.{leb, eqb, eqb·suc-zero}
 use lib.ListN.{length, length-map}
 use Rattle.field.specs.Kept.{member}
-use Rattle.layout.proofs.Rules.{both}
+use Rattle.layout.proofs.Rules.{both, neither}
 use Rattle.order.specs.Names.{sameKey}
 use Rattle.order.specs.declared.Key.{Key}
 use Rattle.order.specs.declared.Order.{Order}
@@ -148,10 +148,6 @@ earlier-behind i (x ∷ es) e h a =
 member-behind : (b : ℕ) (es : List ℕ) (e : ℕ) → member b (es ++ (e ∷ [])) ≡ (member b es || eqb b e)
 member-behind b [] e = or-false (eqb b e)
 member-behind b (x ∷ es) e = rw (member-behind b es e) (sym (or-assoc (eqb b x) (member b es) (eqb b e)))
-
-neither : (a b : Bool) → (a || b) ≡ false → (a ≡ false) × (b ≡ false)
-neither true b e = absurd (true≢false e)
-neither false b e = (refl, e)
 
 pub unshared-behind : (es : List ℕ) (e : ℕ) → (1 ≤ e → member e es ≡ false) → unshared es ≡ true → unshared (es ++ (e ∷ [])) ≡ true
 unshared-behind [] e h u = rw or-true

@@ -4,11 +4,12 @@ use native.Mathlib.Nat.{eq-or-lt-of-le}
 use native.Mathlib.Omega.{arith}
 use mathlib.Core.Path.{_≡_, refl, sym, ap, _∙_}
 use mathlib.Core.Logic.{_⊎_, inl, inr}
-use mathlib.Core.Bool.{Bool, true, false}
+use mathlib.Core.Bool.{true}
 use mathlib.Core.List.{List, [], _∷_, _++_}
-use borrow.Author.Tests.{eqb-true, eqb-false, eq-eqb, ne-eqb}
+use borrow.Author.Tests.{eq-eqb, ne-eqb}
 use lib.Dec.{eqb}
 use lib.ListN.{length}
+use Rattle.layout.proofs.Rules.{same-test}
 use Rattle.day.specs.Damage.{earlier, unshared}
 use Rattle.day.specs.Listing.{Row, below, families, elderAt, Behind, shown}
 use Rattle.day.proofs.Elders.{earlier-at, unshared-at}
@@ -65,13 +66,6 @@ module _ (es : List ℕ) (m : ℕ) (rootless : elderAt es m ≡ 0) where
       go (inr o) ih = rw (ne-eqb (q .at) m (λ e. omega arith)) (ih (omega arith))
 
 -- ---- an order with an elder stands in as many rows as its elder, each time right behind it
-
-same-test : (a b c d : ℕ) → (a ≡ b → c ≡ d) → (c ≡ d → a ≡ b) → eqb a b ≡ eqb c d
-same-test a b c d f g = go (eqb a b) refl
-  where
-    go : (t : Bool) → eqb a b ≡ t → t ≡ eqb c d
-    go true e = sym (eq-eqb c d (f (eqb-true a b e)))
-    go false e = sym (ne-eqb c d (λ q. eqb-false a b e (g q)))
 
 child-shown : (es : List ℕ) → unshared es ≡ true → (m e : ℕ) → m < length es → elderAt es m ≡ e + 1
     → (b : ℕ) (r : Row) (rows : List Row) → Behind es b r rows → shown m rows ≡ shown e (r ∷ rows)

@@ -14,10 +14,9 @@ use Rattle.refusal.specs.Answer.{value}
 use Rattle.cell.specs.Cells.{le, leBytes, isZero}
 use Rattle.cell.proofs.Laws.{le-written, getD-part, part-part}
 use Rattle.field.specs.Byte.{all}
-use Rattle.field.specs.Kept.{member}
 use Rattle.field.proofs.Fill.{between}
 use Rattle.layout.specs.Demand2.{LawfulRecord}
-use Rattle.layout.specs.Layout.{types, liquidities, isTrade, leastStrike, onTrade, tradeId, part}
+use Rattle.layout.specs.Layout.{liquidities, isTrade, leastStrike, onTrade, tradeId, part}
 use Rattle.layout.specs.Line.{line, read, lineOf, rowsFor}
 use Rattle.layout.specs.Records.{typeOf, eventOf, noTrade, tradeOf, liquidityOf, matchOf, crossOf, fieldsOf}
 use Rattle.layout.specs.Rule.{num, code, kept, blank, writes, lawful}
@@ -27,6 +26,7 @@ use Rattle.layout.specs.declared.Record.{Record}
 use Rattle.layout.specs.declared.Trade.{Trade}
 use Rattle.layout.proofs.Demand2.{demand2}
 use Rattle.layout.proofs.Rules.{both}
+use Rattle.writing.proofs.Events.{type-lawful}
 use Rattle.door.specs.Images.{imageOf, oddId, recordIn, unmeant, unwritable}
 use Rattle.door.specs.Promises.{writeAnswer, Writes}
 use Rattle.door.proofs.Cells.{cells, cellAt, apart, clear, numbers-are-cells, length-cells, part-apart, part-cell}
@@ -46,14 +46,6 @@ high-bytes (suc w) zero v h = refl
 high-bytes (suc w) (suc n) v h = high-bytes w n (v / 256) (omega (arith, pow-suc 256 w))
 
 -- ---- what goes by the event
-
-is-type : (e : Event) → member (typeOf e) types ≡ true
-is-type Accepted = refl
-is-type (Executed t) = refl
-is-type Cancelled = refl
-is-type (Broken t) = refl
-is-type Replaced = refl
-is-type Repriced = refl
 
 -- where an event carries no trade, each of its parts is that of none
 no-trade : (of : Trade → ℕ) (n : ℕ) → of noTrade ≡ n → (e : Event) → (not (isTrade (typeOf e)) && not (eqb (of (tradeOf e)) n)) ≡ false
@@ -163,7 +155,7 @@ module _ (r : Record) (h : LawfulRecord r) where
 
   lawful-meant : unmeant image ≡ 0
   lawful-meant = sym (all-meant image
-      (rw type-back (is-type (r .event)))
+      (rw type-back (type-lawful (r .event)))
       (rw (type-back, liquidity-back) (no-trade (λ t. t .liquidity) 32 refl (r .event)))
       price-even
       (even 120 (tradeOf (r .event) .«match_id») (number-cell 6 refl) match-fits (rw (type-back, match-back) (no-trade (λ t. t .«match_id») 0 refl (r .event))))

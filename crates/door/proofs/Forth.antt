@@ -22,7 +22,7 @@ use Rattle.layout.specs.declared.Record.{Record}
 use Rattle.layout.specs.declared.Trade.{Trade}
 use Rattle.layout.proofs.Demand2.{demand2}
 use Rattle.layout.proofs.Rows.{width}
-use Rattle.layout.proofs.Rules.{both, either}
+use Rattle.layout.proofs.Rules.{both, either, neither}
 use Rattle.door.specs.Images.{imageOf, oddId, recordIn, unwritable}
 use Rattle.door.specs.Promises.{codeOf, readAnswer, writeAnswer, Reads}
 use Rattle.door.specs.RoundTrip.{isBytes, RoundTrip}
@@ -112,10 +112,6 @@ trade-said of tr = each-type Said none (λ e. refl) none (λ e. refl) none none
 
     none : not (eqb (of tr) (of noTrade)) ≡ false → of noTrade ≡ of tr
     none e = sym (eqb-true (of tr) (of noTrade) (not-false (eqb (of tr) (of noTrade)) e))
-
-neither : (x y : Bool) → (x || y) ≡ false → (x ≡ false) × (y ≡ false)
-neither true y e = absurd (false≢true (sym e))
-neither false y e = (refl, e)
 
 -- ---- the bytes of a record that may be written
 

@@ -1,16 +1,17 @@
 -- What the tests of a stored order say, over plain variables.
 use Prim.Native.Nat.{ℕ, _+_, _-_, _≤_, _<_}
 use native.Mathlib.Omega.{arith}
-use mathlib.Core.Path.{_≡_, refl, sym}
-use mathlib.Core.Bool.{Bool, true, false, _&&_, and-assoc}
+use mathlib.Core.Path.{_≡_, sym}
+use mathlib.Core.Bool.{Bool, false, _&&_, and-assoc}
 use mathlib.Core.List.{List}
-use borrow.Author.Tests.{eqb-true, eqb-false, eq-eqb, ne-eqb}
+use borrow.Author.Tests.{eq-eqb, ne-eqb}
 use lib.Dec.{leb, eqb, leb·zero}
 use lib.ListN.{length}
 use Rattle.field.specs.Kept.{isText, member}
 use Rattle.layout.specs.Layout.{sides, months, denominators}
 use Rattle.layout.specs.Rule.{kept, text, run, lawful}
 use Rattle.layout.specs.Strikes.{lawfulStrike}
+use Rattle.layout.proofs.Rules.{same-test}
 use Rattle.order.specs.declared.Figures.{Figures}
 use Rattle.order.specs.declared.Order.{Order}
 use Rattle.order.specs.declared.Series.{Series}
@@ -29,14 +30,6 @@ series-lawful s a b c d p q r t =
 pub order-sound : (o : Order) (a b c d : Bool) → a ≡ lawfulKey (o .key) → b ≡ member (o .side) sides → c ≡ lawfulSeries (o .series)
     → d ≡ soundFigures (o .figures) → (a && b && c && leb (o .price) 9999999999 && d) ≡ soundOrder o
 order-sound o a b c d p q r t = rw (p, q, r, t, price-most (o .price))
-
--- two tests that hold in the same cases
-same-test : (a b c d : ℕ) → (a ≡ b → c ≡ d) → (c ≡ d → a ≡ b) → eqb a b ≡ eqb c d
-same-test a b c d f g = go (eqb a b) refl
-  where
-    go : (t : Bool) → eqb a b ≡ t → t ≡ eqb c d
-    go true e = sym (eq-eqb c d (f (eqb-true a b e)))
-    go false e = sym (ne-eqb c d (λ q. eqb-false a b e (g q)))
 
 module _ (f : Figures) where
   pub parts-exceed : f .size < f .executed + f .cancelled + f .passed
