@@ -16,7 +16,6 @@ use layout::Record;
 use order::Order;
 use refusal::Refusal;
 use slot::Place;
-use table::damage;
 use table::header;
 
 // The tests that need no order of the table come first, as 01 has them.
@@ -59,7 +58,7 @@ fn is_full(t: &[u8]) -> bool
     requires { ⌜ sound (now t) ≡ true ⌝ }
     ensures { λ x. ⌜ x ≡ leb (limitOf (length (now (t .entry)))) (length (tableIn (now (t .entry)) .orders)) ⌝ }
 {
-    damage::limit(t.len()) <= header::count(t)
+    header::limit(t.len()) <= header::count(t)
 }
 
 // A line about an order of the table.
