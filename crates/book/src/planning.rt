@@ -18,7 +18,7 @@ use refusal::Refusal;
 use slot::Place;
 use table::header;
 
-// The tests that need no order of the table come first, as 01 has them.
+// The conditions that need no order of the table come first, as 01 has them.
 pub fn plan(t: &[u8], r: Record) -> Plan
     requires { ⌜ sound (now t) ≡ true ⌝ }
     ensures { λ p. ⌜ Plans (now (t .entry)) r p ⌝ }
@@ -89,7 +89,7 @@ fn plan_older(t: &[u8], r: Record) -> Plan
     plan_by(i, o, r)
 }
 
-// What no test refused. An A never comes here; a match has all its cases.
+// What no condition refused. An A never comes here; a match has all its cases.
 fn plan_by(i: usize, o: Order, r: Record) -> Plan
     requires { ⌜ Sound (o .figures) ⌝ }
     requires { ⌜ notOpen r (found o) ≡ false ⌝ }
