@@ -18,14 +18,14 @@ use Rattle.order.specs.declared.Order.{Order}
 use Rattle.day.specs.Machine.{Table, place, amend}
 use Rattle.slot.specs.Slots.{slotBytes, termsBytes, figuresBytes, orderIn, Fits}
 use Rattle.slot.specs.Places.{slotAt, slot, ordersIn}
-use Rattle.table.specs.Tables.{countIn, tableIn}
+use Rattle.table.specs.Tables.{countIn, tableIn, tailZero}
 use Rattle.slot.proofs.Laws.{stored-here, stored-elsewhere, header-kept, header-byte, orders-kept, orders-set, orders-append, length-orders, order-no}
 use Rattle.slot.proofs.Lookups.{at-found, amend-at}
 use Rattle.slot.proofs.Said.{length-slot}
 use Rattle.book.specs.Bytes.{changed, appended}
 
 abbrev pub TailZero : List ℕ → ℕ → Type 0
-TailZero s k = all isZero (part s (slotAt k + 75) 5) ≡ true
+TailZero s k = tailZero s k ≡ true
 
 -- the bytes of a table, damaged or not
 pub record Holds (s : List ℕ) (t : Table) : Type 0 where

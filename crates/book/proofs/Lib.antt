@@ -1,11 +1,11 @@
 pub mod Booked
 pub mod Determined
 pub mod Holding
+pub mod Judged
 pub mod Limited
 pub mod Machine
 pub mod Planned
 pub mod Reached
 pub mod Refuted
 pub mod Sound
-pub mod Tested
 pub mod There

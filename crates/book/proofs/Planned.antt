@@ -71,7 +71,7 @@ module _ (s : List ℕ) (r : Record) where
   plan-bytes Replaced i p = ap₂ (λ n u. appended (newOrder r n) u) (sym p) (at-place (elderKeyOf r) i (withFigures passedOn) p)
   plan-bytes Repriced i p = at-place (keyOf r) i (withPrice (r .price)) p
 
-  -- ---- the tests, one after another
+  -- ---- the conditions, one after another
 
   abbrev orders : List Order
   orders = tableIn s .orders

@@ -13,8 +13,7 @@ use Rattle.layout.specs.Layout.{part}
 use Rattle.layout.proofs.Rules.{both}
 use Rattle.day.specs.Damage.{undamaged}
 use Rattle.day.specs.Machine.{Table}
-use Rattle.slot.specs.Places.{slotAt}
-use Rattle.table.specs.Tables.{countIn, limitOf, tableIn, tailsZero, sound}
+use Rattle.table.specs.Tables.{countIn, limitOf, tableIn, tailZero, tailsZero, slotsSound, sound}
 use Rattle.table.proofs.Limits.{limit-is, limit-most}
 use Rattle.book.proofs.Holding.{TailZero, Holds}
 
@@ -23,7 +22,7 @@ use Rattle.book.proofs.Holding.{TailZero, Holds}
 tails-each : (i n : ℕ) (s : List ℕ) → tailsZero i n s ≡ true → (k : ℕ) → i ≤ k → k < i + n → TailZero s k
 tails-each i zero s z k h l = absurd (omega arith)
 tails-each i (suc n) s z k h l =
-    let b = both (all isZero (part s (slotAt i + 75) 5)) (tailsZero (i + 1) n s) z in
+    let b = both (tailZero s i) (tailsZero (i + 1) n s) z in
     go (eqb k i) refl (b .0) (tails-each (i + 1) n s (b .1) k)
   where
     go : (t : Bool) → eqb k i ≡ t → TailZero s i → (i + 1 ≤ k → k < i + 1 + n → TailZero s k) → TailZero s k
@@ -47,9 +46,9 @@ pub sound-holds : (s : List ℕ) → sound s ≡ true → Holds s (tableIn s) ×
 unfolding sound
 sound-holds s e =
     let limit = limitOf (length s) in
-    let a = both _ (undamaged limit (tableIn s)) e in
-    let b = both _ (tailsZero 0 (countIn s) s) (a .0) in
-    let c = both _ (all isZero (part s 5 3)) (b .0) in
+    let a = both _ (slotsSound s) e in
+    let b = both (tailsZero 0 (countIn s) s) (undamaged limit (tableIn s)) (a .1) in
+    let c = both _ (all isZero (part s 5 3)) (a .0) in
     let d = both _ (leb (getD s 4 0) 1) (c .0) in
     let f = both (ltb 0 limit) (leb (countIn s) limit) (d .0) in
     let few = leb-true (countIn s) limit (f .1) in (
@@ -58,10 +57,10 @@ sound-holds s e =
         few = omega (arith, limit-most (length s));
         mark = leb-true (getD s 4 0) 1 (d .1);
         spare = c .1;
-        tails = λ k l. tails-each 0 (countIn s) s (b .1) k (omega arith) (omega arith);
+        tails = λ k l. tails-each 0 (countIn s) s (b .0) k (omega arith) (omega arith);
         says = refl;
       },
-      a .1,
+      b .1,
     )
 
 pub holds-sound : {s : List ℕ} {t : Table} → Holds s t → undamaged 512 t ≡ true → sound s ≡ true

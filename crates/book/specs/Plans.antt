@@ -19,7 +19,7 @@ use Rattle.book.specs.declared.Booking.{Booking}
 use Rattle.book.specs.declared.Plan.{Plan}
 use Rattle.book.specs.declared.Plan.the-variants.{No, New, Change, Price, Replace}
 
--- the plan for a line of an event that no test refused, f being the figures of the order at place i that it speaks of
+-- the plan for a line of an event that no condition refused, f being the figures of the order at place i that it speaks of
 abbrev pub planBy : Event → ℕ → Figures → Record → Plan
 planBy Accepted i f r = New
 planBy (Executed t) i f r = Change i (executedBy f (r .contracts))

@@ -63,7 +63,7 @@ pub fn subject(r: Record) -> Key
     order::key_of(r)
 }
 
-// Two runs of one length.
+// Two runs of one length. A function of its own, since its contract speaks of the whole runs, and that of `cell::same` of a part.
 fn same_run(a: &[u8], b: &[u8]) -> bool
     requires { ⌜ length (now a) ≡ length (now b) ⌝ }
     ensures { λ r. ⌜ r ≡ same (now (a .entry)) (now (b .entry)) ⌝ }

@@ -16,10 +16,9 @@ use layout::Record;
 use order::Order;
 use refusal::Refusal;
 use slot::Place;
-use table::damage;
 use table::header;
 
-// The tests that need no order of the table come first, as 01 has them.
+// The conditions that need no order of the table come first, as 01 has them.
 pub fn plan(t: &[u8], r: Record) -> Plan
     requires { ⌜ sound (now t) ≡ true ⌝ }
     ensures { λ p. ⌜ Plans (now (t .entry)) r p ⌝ }
@@ -59,7 +58,7 @@ fn is_full(t: &[u8]) -> bool
     requires { ⌜ sound (now t) ≡ true ⌝ }
     ensures { λ x. ⌜ x ≡ leb (limitOf (length (now (t .entry)))) (length (tableIn (now (t .entry)) .orders)) ⌝ }
 {
-    damage::limit(t.len()) <= header::count(t)
+    header::limit(t.len()) <= header::count(t)
 }
 
 // A line about an order of the table.
@@ -90,7 +89,7 @@ fn plan_older(t: &[u8], r: Record) -> Plan
     plan_by(i, o, r)
 }
 
-// What no test refused. An A never comes here; a match has all its cases.
+// What no condition refused. An A never comes here; a match has all its cases.
 fn plan_by(i: usize, o: Order, r: Record) -> Plan
     requires { ⌜ Sound (o .figures) ⌝ }
     requires { ⌜ notOpen r (found o) ≡ false ⌝ }

@@ -15,12 +15,14 @@ pub const HEADER: usize = 8;
 
 pub const SLOT: usize = 80;
 
-// In a slot: the Token behind the Source, the end of the key, the elder, and the five bytes that must be 0.
+// In a slot: the Token behind the Source, the end of the key, the elder, the figures, and the five bytes that must be 0.
 pub const TOKEN: usize = 6;
 
 pub const KEY: usize = 26;
 
 pub const ELDER: usize = 49;
+
+pub const FIGURES: usize = 51;
 
 pub const REST: usize = 75;
 

@@ -5,8 +5,11 @@ ghost use lib.ListN.{length};
 ghost use Rattle.slot.specs.Slots.{orderIn, keyIn, seriesIn, figuresIn};
 ghost use Rattle.slot.specs.Places.{slot, slotAt};
 use crate::ELDER;
+use crate::FIGURES;
 use crate::HEADER;
+use crate::KEY;
 use crate::SLOT;
+use crate::TOKEN;
 use field::put;
 use order::Figures;
 use order::Key;
@@ -19,9 +22,9 @@ fn key_in(b: &[u8]) -> Key
     ensures { λ r. ⌜ r ≡ keyIn (now (b .entry)) ⌝ }
 {
     let mut source = [0u8; 6];
-    put::copy(&mut source, &b[0..6]);
+    put::copy(&mut source, &b[0..TOKEN]);
     let mut token = [0u8; 20];
-    put::copy(&mut token, &b[6..26]);
+    put::copy(&mut token, &b[TOKEN..KEY]);
     Key { source, token }
 }
 
@@ -46,7 +49,7 @@ pub fn figures_in(b: &[u8]) -> Figures
     ensures { λ r. ⌜ r ≡ figuresIn (now (b .entry)) ⌝ }
 {
     Figures {
-        size: cell::get(b, 51, 4),
+        size: cell::get(b, FIGURES, 4),
         executed: cell::get(b, 55, 4),
         broken: cell::get(b, 59, 4),
         cancelled: cell::get(b, 63, 4),
@@ -61,10 +64,10 @@ fn order_in(b: &[u8]) -> Order
 {
     Order {
         key: key_in(b),
-        side: b[26],
+        side: b[KEY],
         series: series_in(b),
         price: cell::get(b, 41, 8),
-        elder: cell::get(b, 49, 2),
+        elder: cell::get(b, ELDER, 2),
         figures: figures_in(b),
     }
 }

@@ -6,9 +6,12 @@ ghost use lib.Seq.{sets};
 ghost use Rattle.slot.specs.Slots.{slotBytes, keyBytes, expiryBytes, seriesBytes, tradedBytes, figuresBytes, termsBytes};
 ghost use Rattle.slot.specs.Places.{slotAt};
 use crate::ELDER;
+use crate::FIGURES;
 use crate::HEADER;
+use crate::KEY;
 use crate::REST;
 use crate::SLOT;
+use crate::TOKEN;
 use field::put;
 use order::Figures;
 use order::Key;
@@ -22,7 +25,7 @@ fn put_key(t: &mut [u8], at: usize, k: Key)
     let source = k.source;
     put::run(t, at, &source);
     let token = k.token;
-    put::run(t, at + 6, &token);
+    put::run(t, at + TOKEN, &token);
 }
 
 // The first nine bytes of a series. A function of its own, since the prover reads only so many facts of one.
@@ -72,7 +75,7 @@ fn put_terms(t: &mut [u8], at: usize, o: Order)
     ensures { λ _. ⌜ now (t .exit) ≡ sets (now (t .entry)) at (termsBytes o) ⌝ }
 {
     put_key(t, at, o.key);
-    put::byte(t, at + 26, o.side);
+    put::byte(t, at + KEY, o.side);
     put_series(t, at + 27, o.series);
     cell::put(t, at + 41, 8, o.price);
 }
@@ -84,7 +87,7 @@ pub fn store(t: &mut [u8], i: usize, o: Order)
     let at = HEADER + SLOT * i;
     put_terms(t, at, o);
     cell::put(t, at + ELDER, 2, o.elder);
-    put_figures(t, at + 51, o.figures);
+    put_figures(t, at + FIGURES, o.figures);
     // The rest of a slot in use must be 0.
     cell::put(t, at + REST, 5, 0);
 }

@@ -2,7 +2,7 @@
 use Prim.Native.Nat.{ℕ, _+_, _-_, _≤_, _<_}
 use native.Mathlib.Omega.{arith}
 use mathlib.Core.Path.{_≡_, sym}
-use mathlib.Core.Bool.{Bool, false, _&&_, and-assoc}
+use mathlib.Core.Bool.{Bool, false, _&&_}
 use mathlib.Core.List.{List}
 use borrow.Author.Tests.{eq-eqb, ne-eqb}
 use lib.Dec.{leb, eqb, leb·zero}
@@ -21,15 +21,18 @@ use Rattle.day.specs.Damage.{lawfulKey, lawfulSeries, soundFigures, soundOrder}
 pub text-lawful : (w : ℕ) (b : List ℕ) (r : Bool) → length b ≡ w → r ≡ isText b → r ≡ lawful (kept text) w (run b)
 text-lawful w b r h e = rw (eq-eqb (length b) w h) e
 
-pub series-lawful : (s : Series) (a b c d : Bool) → a ≡ lawful (kept text) 6 (run (s .root)) → b ≡ member (s .month) months
-    → c ≡ member (s .denominator) denominators → d ≡ lawfulStrike (s .denominator) (s .strike)
-    → (a && b && leb 1 (s .date) && leb (s .date) 31 && leb (s .year) 99 && c && d) ≡ lawfulSeries s
-series-lawful s a b c d p q r t =
-    rw (p, q, r, t, and-assoc (lawful (kept text) 6 (run (s .root)) && member (s .month) months) (leb 1 (s .date)) (leb (s .date) 31), leb·zero)
+pub series-lawful : (s : Series) (a b c d e f : Bool) → a ≡ lawful (kept text) 6 (run (s .root)) → b ≡ member (s .month) months
+    → c ≡ (leb 1 (s .date) && leb (s .date) 31) → d ≡ (leb 0 (s .year) && leb (s .year) 99) → e ≡ member (s .denominator) denominators
+    → f ≡ lawfulStrike (s .denominator) (s .strike) → (a && b && c && d && e && f) ≡ lawfulSeries s
+series-lawful s a b c d e f p q r t u v = rw (p, q, r, t, u, v)
 
-pub order-sound : (o : Order) (a b c d : Bool) → a ≡ lawfulKey (o .key) → b ≡ member (o .side) sides → c ≡ lawfulSeries (o .series)
-    → d ≡ soundFigures (o .figures) → (a && b && c && leb (o .price) 9999999999 && d) ≡ soundOrder o
-order-sound o a b c d p q r t = rw (p, q, r, t, price-most (o .price))
+pub figures-sound : (f : Figures) (a b : Bool) → a ≡ (leb 1 (f .size) && leb (f .size) 999999)
+    → b ≡ eqb (f .size) (f .executed + f .cancelled + f .passed + f .«open») → (a && leb (f .broken) (f .executed) && b) ≡ soundFigures f
+figures-sound f a b p q = rw (p, q)
+
+pub order-sound : (o : Order) (a b c d e : Bool) → a ≡ lawfulKey (o .key) → b ≡ member (o .side) sides → c ≡ lawfulSeries (o .series)
+    → d ≡ (leb 0 (o .price) && leb (o .price) 9999999999) → e ≡ soundFigures (o .figures) → (a && b && c && d && e) ≡ soundOrder o
+order-sound o a b c d e p q r t u = rw (p, q, r, t, u, leb·zero (o .price), price-most (o .price))
 
 module _ (f : Figures) where
   pub parts-exceed : f .size < f .executed + f .cancelled + f .passed

@@ -34,9 +34,8 @@ fn lawful_series(s: Series) -> bool
     let root = s.root;
     is_text(&root)
         & kept::member(s.month, &rule::MONTHS)
-        & (rule::FIRST_DATE <= s.date)
-        & (s.date <= rule::LAST_DATE)
-        & (s.year <= rule::LAST_YEAR)
+        & rule::within(s.date, rule::FIRST_DATE, rule::LAST_DATE)
+        & rule::within(s.year, 0, rule::LAST_YEAR)
         & kept::member(s.denominator, &rule::DENOMINATORS)
         & rule::strike(s.denominator, s.strike)
 }
@@ -62,8 +61,7 @@ fn sums(f: Figures) -> bool
 fn sound_figures(f: Figures) -> bool
     ensures { λ r. ⌜ r ≡ soundFigures f ⌝ }
 {
-    (rule::LEAST_CONTRACTS <= f.size)
-        & (f.size <= rule::MOST_CONTRACTS)
+    rule::within(f.size, rule::LEAST_CONTRACTS, rule::MOST_CONTRACTS)
         & (f.broken <= f.executed)
         & sums(f)
 }
@@ -77,6 +75,6 @@ pub fn sound_order(o: Order) -> bool
     lawful_key(key)
         & kept::member(o.side, &rule::SIDES)
         & lawful_series(series)
-        & (o.price <= rule::MOST_PRICE)
+        & rule::within(o.price, 0, rule::MOST_PRICE)
         & sound_figures(figures)
 }

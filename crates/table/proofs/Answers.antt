@@ -10,11 +10,10 @@ use Rattle.cell.specs.Cells.{isZero}
 use Rattle.field.specs.Byte.{all}
 use Rattle.layout.specs.Layout.{part}
 use Rattle.order.specs.declared.Order.{Order}
-use Rattle.day.specs.Damage.{undamaged}
-use Rattle.table.specs.Passing.{isMarked, elderFits, slotsSound}
+use Rattle.table.specs.Passing.{isMarked, elderFits}
 use Rattle.slot.specs.Slots.{orderIn}
 use Rattle.slot.specs.Places.{slot}
-use Rattle.table.specs.Tables.{countIn, limitOf, sound, tableIn, tailsZero}
+use Rattle.table.specs.Tables.{countIn, limitOf, slotsSound, sound}
 
 -- ---- a test, and what it was said to be
 
@@ -45,15 +44,11 @@ module _ (s flags : List ℕ) (i e : ℕ) where
 abbrev header : List ℕ → Bool
 header s = leb (getD s 4 0) 1 && all isZero (part s 5 3)
 
-regrouped : (a b c d e f : Bool) → (a && b && c && d && e && f) ≡ (a && b && (c && d) && (e && f))
-regrouped a b c d e f = rw (and-assoc (a && b) c d, and-assoc (a && b && (c && d)) e f)
-
 module _ (s : List ℕ) where
   sound-parts : sound s ≡ (ltb 0 (limitOf (length s)) && leb (countIn s) (limitOf (length s)) && header s && slotsSound s)
   unfolding sound
   sound-parts =
-      regrouped (ltb 0 (limitOf (length s))) (leb (countIn s) (limitOf (length s))) (leb (getD s 4 0) 1) (all isZero (part s 5 3))
-      (tailsZero 0 (countIn s) s) (undamaged (limitOf (length s)) (tableIn s))
+      rw (and-assoc (ltb 0 (limitOf (length s)) && leb (countIn s) (limitOf (length s))) (leb (getD s 4 0) 1) (all isZero (part s 5 3)))
 
   pub no-limit : limitOf (length s) ≡ 0 → false ≡ sound s
   unfolding sound

@@ -14,10 +14,10 @@ use Rattle.order.specs.declared.Order.{Order}
 use Rattle.day.specs.Damage.{soundOrder, eldersOf, openAt, undamaged}
 use Rattle.day.proofs.Orders.{length-elders, sole-member}
 use Rattle.day.proofs.Undamaged.{Undamaged, apart, whole, behind}
-use Rattle.table.specs.Passing.{Marks, isMarked, roomIn, openIn, tailZero, slotFits, elderFits, slotsSound}
+use Rattle.table.specs.Passing.{Marks, isMarked, roomIn, openIn, slotFits, elderFits}
 use Rattle.slot.specs.Slots.{orderIn}
 use Rattle.slot.specs.Places.{ordersIn, slot}
-use Rattle.table.specs.Tables.{countIn, limitOf, tableIn, tailsZero}
+use Rattle.table.specs.Tables.{countIn, limitOf, tableIn, tailZero, tailsZero, slotsSound}
 use Rattle.slot.proofs.Laws.{length-orders}
 use Rattle.table.proofs.Limits.{limit-most}
 use Rattle.table.proofs.Marking.{none-marked}

@@ -13,7 +13,7 @@ use Rattle.layout.specs.Layout.{part}
 use Rattle.layout.proofs.Rules.{both}
 use Rattle.day.specs.Damage.{undamaged}
 use Rattle.slot.specs.Places.{slotAt}
-use Rattle.table.specs.Tables.{countIn, limitOf, sound, tableIn, tailsZero}
+use Rattle.table.specs.Tables.{countIn, limitOf, tableIn, tailsZero, slotsSound, sound}
 use Rattle.table.proofs.Limits.{slot-inside}
 
 slots-inside : (len n : ℕ) → 0 < limitOf len → n ≤ limitOf len → slotAt n ≤ len
@@ -34,13 +34,11 @@ whole s e =
     let few = leb (countIn s) limit in
     let mark = leb (getD s 4 0) 1 in
     let rest = all isZero (part s 5 3) in
-    let tails = tailsZero 0 (countIn s) s in
-    let a = both (some && few && mark && rest && tails) (undamaged limit (tableIn s)) e in
-    let b = both (some && few && mark && rest) tails (a .0) in
-    let c = both (some && few && mark) rest (b .0) in
-    let d = both (some && few) mark (c .0) in
-    let f = both some few (d .0) in
-    let positive = ltb-true 0 limit (f .0) in
-    let fits = leb-true (countIn s) limit (f .1) in
+    let a = both (some && few && mark && rest) (slotsSound s) e in
+    let b = both (some && few && mark) rest (a .0) in
+    let c = both (some && few) mark (b .0) in
+    let d = both some few (c .0) in
+    let positive = ltb-true 0 limit (d .0) in
+    let fits = leb-true (countIn s) limit (d .1) in
     let slots = slots-inside (length s) (countIn s) positive fits in
-    record { header = omega arith; slots = slots; fits = fits; orders = a .1 }
+    record { header = omega arith; slots = slots; fits = fits; orders = both (tailsZero 0 (countIn s) s) (undamaged limit (tableIn s)) (a .1) .1 }

@@ -1,18 +1,15 @@
 -- What one pass over the slots in use asks of each, behind those that it has seen (01, Damaged).
-use Prim.Native.Nat.{ℕ, _+_, _-_}
+use Prim.Native.Nat.{ℕ, _-_}
 use mathlib.Core.Path.{_≡_}
 use mathlib.Core.Bool.{Bool, not, _&&_, _||_}
 use mathlib.Core.List.{List}
 use lib.Dec.{leb, eqb}
 use lib.ListN.{length, getD}
-use Rattle.cell.specs.Cells.{isZero}
-use Rattle.field.specs.Byte.{all}
-use Rattle.layout.specs.Layout.{part}
 use Rattle.order.specs.declared.Order.{Order}
-use Rattle.day.specs.Damage.{soundOrder, undamaged}
+use Rattle.day.specs.Damage.{soundOrder}
 use Rattle.slot.specs.Slots.{orderIn}
-use Rattle.slot.specs.Places.{slot, slotAt}
-use Rattle.table.specs.Tables.{countIn, limitOf, tableIn, tailsZero}
+use Rattle.slot.specs.Places.{slot}
+use Rattle.table.specs.Tables.{tailZero}
 
 -- how many orders have a flag
 abbrev pub roomIn : List ℕ → ℕ
@@ -27,10 +24,6 @@ pub record Marks (e : ℕ) (before after : List ℕ) : Type 0 where
   pub room : roomIn after ≡ roomIn before
   pub says : (x : ℕ) → isMarked after x ≡ (eqb x e || isMarked before x)
 
--- the last five bytes of a slot are 0
-abbrev pub tailZero : List ℕ → ℕ → Bool
-tailZero s i = all isZero (part s (slotAt i + 75) 5)
-
 -- a slot and its order, by themselves
 abbrev pub slotFits : List ℕ → ℕ → Order → Bool
 slotFits s i o = tailZero s i && soundOrder o
@@ -42,7 +35,3 @@ openIn s i = orderIn (slot s i) .figures .«open»
 -- an elder number at place i: none, or that of an earlier order which no flag claims and which has nothing open
 abbrev pub elderFits : List ℕ → List ℕ → ℕ → ℕ → Bool
 elderFits s flags i e = leb e i && (eqb e 0 || not (isMarked flags e)) && (eqb e 0 || eqb (openIn s (e - 1)) 0)
-
--- all slots in use
-abbrev pub slotsSound : List ℕ → Bool
-slotsSound s = tailsZero 0 (countIn s) s && undamaged (limitOf (length s)) (tableIn s)

@@ -1,5 +1,5 @@
 -- docs/LAYOUT.md, The lent table: the table that bytes say, and when they have a meaning.
-use Prim.Native.Nat.{ℕ, zero, suc, _+_, _*_}
+use Prim.Native.Nat.{ℕ, zero, suc, _+_}
 use mathlib.Core.Bool.{Bool, true, cond, _&&_}
 use mathlib.Core.List.{List}
 use lib.Dec.{ltb, leb, eqb}
@@ -15,7 +15,7 @@ use Rattle.slot.specs.Places.{slotAt, ordersIn}
 
 -- the bytes of a table with room for so many orders
 abbrev pub tableLength : ℕ → ℕ
-tableLength limit = 8 + 80 * limit
+tableLength limit = slotAt limit
 
 -- how many orders a table of so many bytes has room for; 0 where the length has no meaning
 abbrev pub limitOf : ℕ → ℕ
@@ -28,17 +28,24 @@ countIn s = le (part s 0 4)
 abbrev pub tableIn : List ℕ → Table
 tableIn s = record { orders = ordersIn 0 (countIn s) s; over = eqb (getD s 4 0) 1 }
 
--- the last five bytes of each slot in use are 0
+-- the last five bytes of a slot are 0
+abbrev pub tailZero : List ℕ → ℕ → Bool
+tailZero s i = all isZero (part s (slotAt i + 75) 5)
+
+-- those of each of n slots, the first of them slot i
 abbrev pub tailsZero : ℕ → ℕ → List ℕ → Bool
 tailsZero i zero s = true
-tailsZero i (suc n) s = all isZero (part s (slotAt i + 75) 5) && tailsZero (i + 1) n s
+tailsZero i (suc n) s = tailZero s i && tailsZero (i + 1) n s
+
+-- all slots in use
+abbrev pub slotsSound : List ℕ → Bool
+slotsSound s = tailsZero 0 (countIn s) s && undamaged (limitOf (length s)) (tableIn s)
 
 -- 01, Damaged: a length or a stored byte that the layout gives no meaning, or orders that are damaged
 unfoldable pub sound : List ℕ → Bool
 sound s =
     ltb 0 (limitOf (length s)) && leb (countIn s) (limitOf (length s)) && leb (getD s 4 0) 1 && all isZero (part s 5 3)
-    && tailsZero 0 (countIn s) s
-    && undamaged (limitOf (length s)) (tableIn s)
+    && slotsSound s
 
 -- 01, Refusals by number, 4 and 5: making the empty table in a lent buffer
 abbrev pub makeAnswer : List ℕ → Answer (Unit {0})

@@ -1,37 +1,16 @@
 // The damage check: whether a lent slice of bytes says an undamaged table.
 ghost use Prim.Native.Nat.{_+_, _≤_, _<_};
 ghost use mathlib.Core.Path.{_≡_};
-ghost use mathlib.Core.Bool.{_&&_};
-ghost use lib.Dec.{leb};
-ghost use lib.ListN.{length, getD};
-ghost use Rattle.cell.specs.Cells.{isZero};
-ghost use Rattle.field.specs.Byte.{all};
-ghost use Rattle.layout.specs.Layout.{part};
-ghost use Rattle.table.specs.Passing.{elderFits, roomIn, slotFits, slotsSound};
+ghost use lib.ListN.{length};
+ghost use Rattle.table.specs.Passing.{elderFits, roomIn, slotFits};
 ghost use Rattle.slot.specs.Places.{slotAt};
-ghost use Rattle.table.specs.Tables.{countIn, limitOf, sound};
-use crate::LIMIT;
-use crate::TABLE;
+ghost use Rattle.table.specs.Tables.{countIn, limitOf, slotsSound, sound};
 use crate::flags;
 use crate::header;
 use order::Order;
 use slot::HEADER;
 use slot::REST;
 use slot::SLOT;
-
-// How many orders a table of so many bytes has room for, or 0.
-pub fn limit(len: usize) -> u64
-    ensures { λ r. ⌜ r ≡ limitOf len ⌝ }
-{
-    if len == TABLE { LIMIT } else { 0 }
-}
-
-fn sound_header(t: &[u8]) -> bool
-    requires { ⌜ 8 ≤ length (now t) ⌝ }
-    ensures { λ r. ⌜ r ≡ (leb (getD (now (t .entry)) 4 0) 1 && all isZero (part (now (t .entry)) 5 3)) ⌝ }
-{
-    (t[4] <= 1) & cell::zeros(t, 5, 3)
-}
 
 // The last five bytes of the slot, and the order in it.
 fn sound_slot(t: &[u8], i: usize, o: Order) -> bool
@@ -87,7 +66,7 @@ fn sound_slots(t: &[u8], n: usize) -> bool
 pub fn is_sound(t: &[u8]) -> bool
     ensures { λ r. ⌜ r ≡ sound (now (t .entry)) ⌝ }
 {
-    let most = limit(t.len());
+    let most = header::limit(t.len());
     if most == 0 {
         return false;
     }
@@ -95,7 +74,7 @@ pub fn is_sound(t: &[u8]) -> bool
     if most < n {
         return false;
     }
-    if !sound_header(t) {
+    if !header::sound_header(t) {
         return false;
     }
     sound_slots(t, n as usize)

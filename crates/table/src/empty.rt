@@ -2,6 +2,7 @@
 ghost use Rattle.table.specs.Promises.{Makes};
 use crate::Made;
 use crate::TABLE;
+use crate::header;
 use refusal::Refusal;
 
 // Only the header is written: free slots keep whatever they hold.
@@ -14,6 +15,6 @@ pub fn make_empty(t: &mut [u8]) -> Made
     if TABLE < t.len() {
         return Made::Refused(Refusal::Damaged);
     }
-    cell::put(t, 0, 8, 0);
+    header::clear(t);
     Made::Done
 }

@@ -1,12 +1,25 @@
-// The header of a lent table: how many orders there are, and whether the day is over.
+// The header of a lent table: how many orders there are, of how many that it has room for, and whether the day is over.
 ghost use Prim.Native.Nat.{_≤_};
 ghost use mathlib.Core.Path.{_≡_};
+ghost use mathlib.Core.Bool.{_&&_};
 ghost use mathlib.Core.List.{[], _∷_};
-ghost use lib.Dec.{eqb};
-ghost use lib.ListN.{length, getD};
+ghost use lib.Dec.{leb, eqb};
+ghost use lib.ListN.{length, getD, replicate};
 ghost use lib.Seq.{sets};
-ghost use Rattle.cell.specs.Cells.{leBytes};
-ghost use Rattle.table.specs.Tables.{countIn};
+ghost use Rattle.cell.specs.Cells.{leBytes, isZero};
+ghost use Rattle.field.specs.Byte.{all};
+ghost use Rattle.layout.specs.Layout.{part};
+ghost use Rattle.table.specs.Tables.{countIn, limitOf};
+use crate::LIMIT;
+use crate::TABLE;
+use slot::HEADER;
+
+// How many orders a table of so many bytes has room for, or 0.
+pub fn limit(len: usize) -> u64
+    ensures { λ r. ⌜ r ≡ limitOf len ⌝ }
+{
+    if len == TABLE { LIMIT } else { 0 }
+}
 
 pub fn count(t: &[u8]) -> u64
     requires { ⌜ 8 ≤ length (now t) ⌝ }
@@ -34,4 +47,20 @@ pub fn put_over(t: &mut [u8])
     ensures { λ _. ⌜ now (t .exit) ≡ sets (now (t .entry)) 4 (1 ∷ []) ⌝ }
 {
     t[4] = 1;
+}
+
+// The mark of the day's end, and the three bytes behind it that must be 0.
+pub fn sound_header(t: &[u8]) -> bool
+    requires { ⌜ 8 ≤ length (now t) ⌝ }
+    ensures { λ r. ⌜ r ≡ (leb (getD (now (t .entry)) 4 0) 1 && all isZero (part (now (t .entry)) 5 3)) ⌝ }
+{
+    (t[4] <= 1) & cell::zeros(t, 5, 3)
+}
+
+// The header of a table without orders, the day not over.
+pub fn clear(t: &mut [u8])
+    requires { ⌜ 8 ≤ length (now t) ⌝ }
+    ensures { λ _. ⌜ now (t .exit) ≡ sets (now (t .entry)) 0 (replicate 8 0) ⌝ }
+{
+    cell::put(t, 0, HEADER, 0);
 }

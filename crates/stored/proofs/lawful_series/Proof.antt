@@ -16,6 +16,12 @@ slice-aggregate-member c = search needs
 member-requires : tie.Need-member-requires
 member-requires c κs = search needs
 
+within-requires : tie.Need-within-requires
+within-requires c κs = search needs
+
+within-requires-2 : tie.Need-within-requires-2
+within-requires-2 c κs = search needs
+
 slice-aggregate-member-2 : tie.Need-slice-aggregate-member-2
 slice-aggregate-member-2 c = search needs
 
@@ -27,9 +33,9 @@ strike-requires c κs = search needs
 
 returns : tie.Need-returns
 returns c =
-    let s = c .before .before .before .before .before .before .before .before .before .before .before .args .s in
-    series-lawful s _ _ _ _ (text-lawful 6 (s .root) _ (search needs) (c .before .before .before .before .before .before .before .before .is-text .ensures))
-    (c .before .before .before .before .before .before .member .ensures) (c .before .member2 .ensures) (c .strike .ensures)
+    let s = c .before .before .before .before .before .before .before .before .before .before .args .s in
+    series-lawful s _ _ _ _ _ _ (text-lawful 6 (s .root) _ (search needs) (c .before .before .before .before .before .before .before .is-text .ensures))
+    (c .before .before .before .before .before .member .ensures) (c .before .before .before .before .within .ensures) (c .before .before .before .within2 .ensures) (c .before .member2 .ensures) (c .strike .ensures)
 
 pub lawful-series-spec : {M : Type 1} → statement M
 lawful-series-spec =
@@ -39,6 +45,8 @@ lawful-series-spec =
     is-text-requires
     slice-aggregate-member
     member-requires
+    within-requires
+    within-requires-2
     slice-aggregate-member-2
     member-requires-2
     strike-requires

@@ -1,18 +1,17 @@
 -- `stored::sound_figures` meets its contract.
-use mathlib.Core.Path.{ap}
-use mathlib.Core.Bool.{Bool, _&&_}
 use borrow.Author.Needs.{needs}
-use lib.Dec.{leb}
+use Rattle.stored.proofs.Fields.{figures-sound}
 use Rattle.stored.proofs.sound_figures.Statement.{statement}
 use Rattle.stored.proofs.sound_figures.Tie as tie
+
+within-requires : tie.Need-within-requires
+within-requires c κs = search needs
 
 sums-requires : tie.Need-sums-requires
 sums-requires c κs = search needs
 
 returns : tie.Need-returns
-returns c =
-    let f = c .before .before .before .before .args .f in
-    ap (λ (b : Bool). leb 1 (f .size) && leb (f .size) 999999 && leb (f .broken) (f .executed) && b) (c .sums .ensures)
+returns c = figures-sound (c .before .before .before .args .f) _ _ (c .before .before .within .ensures) (c .sums .ensures)
 
 pub sound-figures-spec : {M : Type 1} → statement M
-sound-figures-spec = tie.close (tie.spec sums-requires returns)
+sound-figures-spec = tie.close (tie.spec within-requires sums-requires returns)

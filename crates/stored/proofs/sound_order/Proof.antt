@@ -16,13 +16,16 @@ member-requires c κs = search needs
 lawful-series-requires : tie.Need-lawful-series-requires
 lawful-series-requires c κs = search needs
 
+within-requires : tie.Need-within-requires
+within-requires c κs = search needs
+
 sound-figures-requires : tie.Need-sound-figures-requires
 sound-figures-requires c κs = search needs
 
 returns : tie.Need-returns
 returns c =
     let o = c .before .before .before .before .before .before .before .before .before .args .o in
-    order-sound o _ _ _ _ (c .before .before .before .before .before .lawful-key .ensures) (c .before .before .before .member .ensures) (c .before .before .lawful-series .ensures) (c .sound-figures .ensures)
+    order-sound o _ _ _ _ _ (c .before .before .before .before .before .lawful-key .ensures) (c .before .before .before .member .ensures) (c .before .before .lawful-series .ensures) (c .before .within .ensures) (c .sound-figures .ensures)
 
 pub sound-order-spec : {M : Type 1} → statement M
 sound-order-spec =
@@ -32,5 +35,6 @@ sound-order-spec =
     slice-aggregate-member
     member-requires
     lawful-series-requires
+    within-requires
     sound-figures-requires
     returns)

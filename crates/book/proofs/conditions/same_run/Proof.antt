@@ -2,7 +2,7 @@
 use mathlib.Core.Path.{_∙_}
 use borrow.Author.Needs.{needs}
 use denote.Ref.{now}
-use Rattle.book.proofs.Tested.{same-whole}
+use Rattle.book.proofs.Judged.{same-whole}
 use Rattle.book.proofs.conditions.same_run.Statement.{statement}
 use Rattle.book.proofs.conditions.same_run.Tie as tie
 

@@ -1,6 +1,6 @@
 -- `book::planning::plan_by` meets its contract.
 use borrow.Author.Needs.{needs}
-use Rattle.book.proofs.Tested.{executable, cancellable, breakable}
+use Rattle.book.proofs.Judged.{executable, cancellable, breakable}
 use Rattle.book.proofs.planning.plan_by.Statement.{statement}
 use Rattle.book.proofs.planning.plan_by.Tie as tie
 

@@ -10,7 +10,7 @@ use Rattle.table.specs.Tables.{tableIn}
 use Rattle.day.specs.Refusals.{subject}
 use Rattle.day.specs.Machine.{place}
 use Rattle.book.proofs.Booked.{plan-is}
-use Rattle.book.proofs.Tested.{both-are}
+use Rattle.book.proofs.Judged.{both-are}
 use Rattle.slot.proofs.Lookups.{nobody-found, place-is}
 use Rattle.book.proofs.There.{There, there}
 use Rattle.table.proofs.Whole.{whole}

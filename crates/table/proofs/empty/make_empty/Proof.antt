@@ -11,14 +11,14 @@ returns c = too-short (now (c .before .before .args .t)) (search needs)
 returns-2 : tie.Need-returns-2
 returns-2 c = too-long (now (c .before .before .before .args .t)) (search needs)
 
-put-requires : tie.Need-put-requires
-put-requires c κs = search needs
+clear-requires : tie.Need-clear-requires
+clear-requires c κs = search needs
 
 same-length : tie.Need-same-length
 same-length c = search needs
 
 returns-3 : tie.Need-returns-3
-returns-3 c = made (now (c .before .before .before .before .before .before .before .args .t)) _ (search needs) (search needs) (c .before .before .put .ensures)
+returns-3 c = made (now (c .before .before .before .before .before .before .before .args .t)) _ (search needs) (search needs) (c .before .before .clear .ensures)
 
 pub make-empty-spec : {M : Type 1} → statement M
-make-empty-spec = tie.close (tie.spec returns returns-2 put-requires same-length returns-3)
+make-empty-spec = tie.close (tie.spec returns returns-2 clear-requires same-length returns-3)

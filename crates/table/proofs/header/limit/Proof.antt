@@ -1,7 +1,7 @@
--- `table::damage::limit` meets its contract.
+-- `table::header::limit` meets its contract.
 use Rattle.table.proofs.Limits.{limit-is, limit-none}
-use Rattle.table.proofs.damage.limit.Statement.{statement}
-use Rattle.table.proofs.damage.limit.Tie as tie
+use Rattle.table.proofs.header.limit.Statement.{statement}
+use Rattle.table.proofs.header.limit.Tie as tie
 
 returns : tie.Need-returns
 returns c = limit-is _ (c .if1 .taken)

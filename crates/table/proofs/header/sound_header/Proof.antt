@@ -1,12 +1,12 @@
--- `table::damage::sound_header` meets its contract.
+-- `table::header::sound_header` meets its contract.
 use mathlib.Core.Path.{ap}
 use mathlib.Core.Bool.{Bool, _&&_}
 use borrow.Author.Needs.{needs}
 use denote.Ref.{now}
 use lib.Dec.{leb}
 use lib.ListN.{getD}
-use Rattle.table.proofs.damage.sound_header.Statement.{statement}
-use Rattle.table.proofs.damage.sound_header.Tie as tie
+use Rattle.table.proofs.header.sound_header.Statement.{statement}
+use Rattle.table.proofs.header.sound_header.Tie as tie
 
 shared-slice-read-result : tie.Need-shared-slice-read-result
 shared-slice-read-result c = search needs

@@ -1,4 +1,4 @@
--- What the tests of a line say of the order that it speaks of.
+-- What the conditions of a line say of the order that it speaks of.
 use Prim.Native.Nat.{ℕ, _+_, _-_, _≤_}
 use native.Mathlib.Nat.{le-of-eq}
 use mathlib.Core.Path.{_≡_, ap}
@@ -33,7 +33,7 @@ module _ (maker : Bool) (k : Key) (os : List Order) where
   pub maker-known : maker ≡ true → (i : ℕ) (none : Order) → place k os ≡ i + 1 → true ≡ (maker && isFound (find k os))
   maker-known e i none p = rw (e, at-found k os i none p .1)
 
--- ---- what a test that failed leaves
+-- ---- what a condition that does not apply leaves
 
 module _ (o : Order) (r : Record) where
   pub executable : (t : Trade) → r .event ≡ Executed t → notOpen r (found o) ≡ false → r .contracts ≤ o .figures .«open»
@@ -45,7 +45,7 @@ module _ (o : Order) (r : Record) where
   pub breakable : (t : Trade) → r .event ≡ Broken t → notExecuted r (found o) ≡ false → r .contracts ≤ o .figures .executed - o .figures .broken
   breakable t e h = ltb-false (o .figures .executed - o .figures .broken) (r .contracts) (rw e at h)
 
--- ---- two tests in one
+-- ---- two conditions in one
 
 pub both-are : {w : Bool} (a b c d : Bool) → a ≡ c → b ≡ d → (a && b) ≡ w → (c && d) ≡ w
 both-are a b c d e f h = rw (e, f) at h
