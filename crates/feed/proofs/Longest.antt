@@ -22,6 +22,7 @@ use Rattle.book.specs.Bytes.{bookAnswer}
 use Rattle.row.specs.Texts.{decimal}
 use Rattle.row.proofs.Decimals.{decimal-length, decimal-most}
 use Rattle.feed.specs.Printed.{lineWord, refusedWord, fieldWord, fieldText, report}
+use Rattle.feed.specs.Steps.{longest}
 
 -- ---- what is answered
 
@@ -101,10 +102,10 @@ tail-most n f h k = (two .1, go (eqb n 3) refl)
 line-length : (a b c d e f : List ℕ) → length (a ++ b ++ c ++ d ++ e ++ f) ≡ length a + length b + length c + length d + length e + length f
 line-length a b c d e f = simp (length-append {A = ℕ})
 
-report-most : (l : ℕ) (a : Answer (Unit {0})) → Few a → length (report l a) ≤ 46
+report-most : (l : ℕ) (a : Answer (Unit {0})) → Few a → length (report l a) ≤ longest
 report-most l (value u) h = omega arith
 report-most l (refused n f) h =
     omega (arith, line-length lineWord (decimal l) refusedWord (decimal n) (fieldText n f) (10 ∷ []), decimal-most l, tail-most n f (omega arith) (omega arith))
 
-pub said-most : (l : ℕ) (s p : List ℕ) → length (report l (bookAnswer s p)) ≤ 46
+pub said-most : (l : ℕ) (s p : List ℕ) → length (report l (bookAnswer s p)) ≤ longest
 said-most l s p = report-most l (bookAnswer s p) (answer-few s p)

@@ -3,7 +3,8 @@ ghost use Prim.Native.Nat.{_+_, _≤_, _<_};
 ghost use mathlib.Core.Path.{_≡_};
 ghost use mathlib.Core.Bool.{true};
 ghost use lib.ListN.{length};
-ghost use Rattle.table.specs.Tables.{sound};
+ghost use Rattle.table.specs.Tables.{sound, tableLength};
+ghost use Rattle.feed.specs.Steps.{holdLength, longest};
 use chunk::Kept;
 
 // Whether one of the sizes, of two bytes each, is 0.
@@ -23,7 +24,7 @@ pub fn feed_all(text: &[u8], sizes: &[u8], room: usize)
     requires { ⌜ 2 ≤ length (now sizes) ⌝ }
     requires { ⌜ (64 ≤ room) × (room ≤ 60000) ⌝ }
 {
-    let mut table = [0u8; 40_968];
+    let mut table = [0u8; table::TABLE];
     let mut hold = [0u8; 141];
     let mut out = output();
     feed_in(text, sizes, room, &mut table, &mut hold, &mut out);
@@ -33,8 +34,8 @@ pub fn feed_all(text: &[u8], sizes: &[u8], room: usize)
 fn feed_in(text: &[u8], sizes: &[u8], room: usize, t: &mut [u8], hold: &mut [u8], out: &mut [u8])
     requires { ⌜ 2 ≤ length (now sizes) ⌝ }
     requires { ⌜ (64 ≤ room) × (room ≤ 60000) ⌝ }
-    requires { ⌜ length (now t) ≡ 40968 ⌝ }
-    requires { ⌜ length (now hold) ≡ 141 ⌝ }
+    requires { ⌜ length (now t) ≡ tableLength 512 ⌝ }
+    requires { ⌜ length (now hold) ≡ holdLength ⌝ }
     requires { ⌜ length (now out) ≡ 60000 ⌝ }
 {
     chunk::begin(t);
@@ -46,9 +47,9 @@ fn feed_in(text: &[u8], sizes: &[u8], room: usize, t: &mut [u8], hold: &mut [u8]
 fn feed_chunks(text: &[u8], sizes: &[u8], t: &mut [u8], hold: &mut [u8], out: &mut [u8]) -> Kept
     requires { ⌜ 2 ≤ length (now sizes) ⌝ }
     requires { ⌜ sound (now t) ≡ true ⌝ }
-    requires { ⌜ length (now hold) ≡ 141 ⌝ }
-    requires { ⌜ 46 ≤ length (now out) ⌝ }
-    ensures { λ r. ⌜ (r .held ≤ 141) × (sound (now (t .exit)) ≡ true) × (length (now (hold .exit)) ≡ 141) ⌝ }
+    requires { ⌜ length (now hold) ≡ holdLength ⌝ }
+    requires { ⌜ longest ≤ length (now out) ⌝ }
+    ensures { λ r. ⌜ (r .held ≤ holdLength) × (sound (now (t .exit)) ≡ true) × (length (now (hold .exit)) ≡ holdLength) ⌝ }
 {
     let mut at = 0;
     let mut turn = 0;
