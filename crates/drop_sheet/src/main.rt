@@ -16,7 +16,7 @@ fn table_buffer() -> [u8; table::TABLE]
 
 fn main() {
     let mut table = table_buffer();
-    let mut hold = [0u8; 141];
+    let mut hold = [0u8; feed::HOLD];
     let mut input = io::large_buffer();
     let mut out = io::large_buffer();
     run(&mut table, &mut hold, &mut input, &mut out);

@@ -9,12 +9,10 @@ ghost use Rattle.table.specs.Tables.{sound};
 ghost use Rattle.row.specs.Writes.{Wrote};
 ghost use Rattle.feed.specs.Printed.{report as Printed·report};
 ghost use Rattle.feed.specs.Steps.{heldIn, holdLength, keptOf, longest};
+use crate::HOLD;
 use crate::report;
 use book::Booking;
 use field::put;
-
-// One byte more than a line, so that a piece that is too long is seen to be.
-const KEPT: usize = 141;
 
 // A part of a piece behind what is held of it.
 pub fn keep(hold: &mut [u8], held: usize, part: &[u8]) -> usize
@@ -23,7 +21,7 @@ pub fn keep(hold: &mut [u8], held: usize, part: &[u8]) -> usize
     ensures { λ r. ⌜ heldIn (now (hold .exit)) r ≡ keptOf (heldIn (now (hold .entry)) held ++ now (part .entry)) ⌝ }
     ensures { λ r. ⌜ (r ≤ holdLength) × (length (now (hold .exit)) ≡ holdLength) ⌝ }
 {
-    let room = KEPT - held;
+    let room = HOLD - held;
     let n = if part.len() < room { part.len() } else { room };
     put::run(hold, held, &part[0..n]);
     held + n

@@ -14,6 +14,9 @@ mod report;
 
 use sheet::Writing;
 
+// One byte more than a line, so that a piece that is too long is seen to be.
+pub const HOLD: usize = 141;
+
 // The longest refusal line.
 const LONGEST: usize = 46;
 
