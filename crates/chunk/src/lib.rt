@@ -3,7 +3,8 @@ ghost use Prim.Native.Nat.{_≤_};
 ghost use mathlib.Core.Path.{_≡_};
 ghost use mathlib.Core.Bool.{true};
 ghost use lib.ListN.{length};
-ghost use Rattle.table.specs.Tables.{sound};
+ghost use Rattle.table.specs.Tables.{sound, tableLength};
+ghost use Rattle.feed.specs.Steps.{holdLength, longest, roomAtEnd};
 
 // What a chunk leaves for the next: how much is held, and the number of the piece to come.
 pub struct Kept {
@@ -13,7 +14,7 @@ pub struct Kept {
 
 // The table before the first chunk.
 pub fn begin(t: &mut [u8])
-    requires { ⌜ length (now t) ≡ 40968 ⌝ }
+    requires { ⌜ length (now t) ≡ tableLength 512 ⌝ }
     ensures { λ _. ⌜ sound (now (t .exit)) ≡ true ⌝ }
 {
     table::make_empty(t);
@@ -29,10 +30,10 @@ pub fn take(
     out: &mut [u8],
 ) -> Kept
     requires { ⌜ sound (now t) ≡ true ⌝ }
-    requires { ⌜ length (now hold) ≡ 141 ⌝ }
-    requires { ⌜ held ≤ 141 ⌝ }
-    requires { ⌜ 46 ≤ length (now out) ⌝ }
-    ensures { λ r. ⌜ (r .held ≤ 141) × (sound (now (t .exit)) ≡ true) × (length (now (hold .exit)) ≡ 141) ⌝ }
+    requires { ⌜ length (now hold) ≡ holdLength ⌝ }
+    requires { ⌜ held ≤ holdLength ⌝ }
+    requires { ⌜ longest ≤ length (now out) ⌝ }
+    ensures { λ r. ⌜ (r .held ≤ holdLength) × (sound (now (t .exit)) ≡ true) × (length (now (hold .exit)) ≡ holdLength) ⌝ }
 {
     let mut used = 0;
     let mut kept = held;
@@ -53,9 +54,9 @@ pub fn take(
 // The piece that is held, and the sheet.
 pub fn end(t: &mut [u8], hold: &[u8], held: usize, line: u64, out: &mut [u8])
     requires { ⌜ sound (now t) ≡ true ⌝ }
-    requires { ⌜ length (now hold) ≡ 141 ⌝ }
-    requires { ⌜ held ≤ 141 ⌝ }
-    requires { ⌜ 40006 ≤ length (now out) ⌝ }
+    requires { ⌜ length (now hold) ≡ holdLength ⌝ }
+    requires { ⌜ held ≤ holdLength ⌝ }
+    requires { ⌜ roomAtEnd ≤ length (now out) ⌝ }
 {
     let n = feed::finish(t, hold, held, line, out);
     say(out, n);

@@ -4,28 +4,28 @@ ghost use Prim.Native.Nat.{_≤_};
 ghost use mathlib.Core.Path.{_≡_};
 ghost use mathlib.Core.Bool.{true};
 ghost use lib.ListN.{length};
-ghost use Rattle.table.specs.Tables.{sound};
+ghost use Rattle.table.specs.Tables.{sound, tableLength};
+ghost use Rattle.feed.specs.Steps.{holdLength, roomAtEnd};
 use chunk::Kept;
 
-// Header and 512 slots.
-fn table_buffer() -> [u8; 40968]
-    ensures { λ r. ⌜ 40968 ≡ length r ⌝ }
+fn table_buffer() -> [u8; table::TABLE]
+    ensures { λ r. ⌜ tableLength 512 ≡ length r ⌝ }
 {
-    [0; 40968]
+    [0; table::TABLE]
 }
 
 fn main() {
     let mut table = table_buffer();
-    let mut hold = [0u8; 141];
+    let mut hold = [0u8; feed::HOLD];
     let mut input = io::large_buffer();
     let mut out = io::large_buffer();
     run(&mut table, &mut hold, &mut input, &mut out);
 }
 
 fn run(t: &mut [u8], hold: &mut [u8], input: &mut [u8], out: &mut [u8])
-    requires { ⌜ length (now t) ≡ 40968 ⌝ }
-    requires { ⌜ length (now hold) ≡ 141 ⌝ }
-    requires { ⌜ 40006 ≤ length (now out) ⌝ }
+    requires { ⌜ length (now t) ≡ tableLength 512 ⌝ }
+    requires { ⌜ length (now hold) ≡ holdLength ⌝ }
+    requires { ⌜ roomAtEnd ≤ length (now out) ⌝ }
 {
     chunk::begin(t);
     let kept = read_all(t, hold, input, out);
@@ -36,9 +36,9 @@ fn run(t: &mut [u8], hold: &mut [u8], input: &mut [u8], out: &mut [u8])
 // turns down from a number that no run uses up.
 fn read_all(t: &mut [u8], hold: &mut [u8], input: &mut [u8], out: &mut [u8]) -> Kept
     requires { ⌜ sound (now t) ≡ true ⌝ }
-    requires { ⌜ length (now hold) ≡ 141 ⌝ }
-    requires { ⌜ 40006 ≤ length (now out) ⌝ }
-    ensures { λ r. ⌜ (r .held ≤ 141) × (sound (now (t .exit)) ≡ true) × (length (now (hold .exit)) ≡ 141) ⌝ }
+    requires { ⌜ length (now hold) ≡ holdLength ⌝ }
+    requires { ⌜ roomAtEnd ≤ length (now out) ⌝ }
+    ensures { λ r. ⌜ (r .held ≤ holdLength) × (sound (now (t .exit)) ≡ true) × (length (now (hold .exit)) ≡ holdLength) ⌝ }
 {
     let mut held = 0;
     let mut line = 1;

@@ -22,7 +22,7 @@ use Rattle.feed.proofs.Longest.{said-most}
 record Advances (room : ℕ) (chunk : List ℕ) (y : Step) : Type 0 where
   inside : usedOf y ≤ length chunk
   fits : length (textIn y) ≤ room
-  some : 46 ≤ room → 1 ≤ length chunk → 1 ≤ usedOf y
+  some : longest ≤ room → 1 ≤ length chunk → 1 ≤ usedOf y
 
 ended-some : (p : List ℕ) → Ended p → 1 ≤ length p
 ended-some p (q, e, n) = omega (arith, ap length e, length-append q (10 ∷ []))
@@ -47,8 +47,8 @@ over (more {p} {s = t} {ps} e c) room held l s =
   where
     go : (b : Bool) → ltb room longest ≡ b → {y : Step} → Advances (room - length (report l (bookAnswer s (held ++ p)))) t y
         → Advances room (p ++ t) (cond b (step 0 [] (between held l s)) (after (length p) (report l (bookAnswer s (held ++ p))) y))
-    go true h {y} a = record { inside = omega arith; fits = omega arith; some = λ k _. absurd (omega (arith, ltb-true room 46 h)) }
-    go false h {y} a = books room p t (report l (bookAnswer s (held ++ p))) y (ended-some p e) (omega (arith, ltb-false room 46 h, said-most l s (held ++ p))) a
+    go true h {y} a = record { inside = omega arith; fits = omega arith; some = λ k _. absurd (omega (arith, ltb-true room longest h)) }
+    go false h {y} a = books room p t (report l (bookAnswer s (held ++ p))) y (ended-some p e) (omega (arith, ltb-false room longest h, said-most l s (held ++ p))) a
 
 advances : (room : ℕ) (x : Between) (chunk : List ℕ) → Advances room chunk (stepFrom room x chunk)
 advances room (between held l s) chunk = over (pieces-cut chunk) room held l s
@@ -62,7 +62,7 @@ pub record Took (chunk : List ℕ) (used : ℕ) (before : List ℕ) (r : Fed) (o
   pub inside : used + r .used ≤ length chunk
   pub some : 1 ≤ r .used
 
-pub took : (chunk : List ℕ) (used : ℕ) (x : Between) (before : List ℕ) {r : Fed} {t hold out : List ℕ} → used < length chunk → 46 ≤ length before
+pub took : (chunk : List ℕ) (used : ℕ) (x : Between) (before : List ℕ) {r : Fed} {t hold out : List ℕ} → used < length chunk → longest ≤ length before
     → Fits (stepFrom (length before) x (take (length chunk - used) (drop used chunk))) before r t hold out → Took chunk used before r out
 took chunk used x before here room f =
     let rest = take (length chunk - used) (drop used chunk) in

@@ -1,4 +1,4 @@
--- Booking a piece looks at no more than its first 141 bytes.
+-- Booking a piece looks at no more than what the hold keeps of it.
 use Prim.Native.Nat.{ℕ, zero, suc, _<_}
 use native.Mathlib.Omega.{arith}
 use mathlib.Core.Path.{_≡_, refl, sym, ap, _∙_}
@@ -14,7 +14,7 @@ use Rattle.layout.proofs.Answers.{no-line-read}
 use Rattle.day.specs.Machine.{bookRead}
 use Rattle.table.specs.Tables.{limitOf, tableIn, sound}
 use Rattle.book.specs.Bytes.{readBytes, bookBytes, bookAnswer}
-use Rattle.feed.specs.Steps.{keptOf}
+use Rattle.feed.specs.Steps.{holdLength, keptOf}
 
 -- ---- reading
 
@@ -22,13 +22,13 @@ too-long : (p : List ℕ) → 140 < length p → read p ≡ refused 1 0
 too-long p h = no-line-read p (λ e. omega (arith, ap length e)) (rw (ne-eqb (length p) 140 (λ e. omega arith)))
 
 read-kept : (p : List ℕ) → read (keptOf p) ≡ read p
-read-kept p = go (leb (length p) 141) refl
+read-kept p = go (leb (length p) holdLength) refl
   where
-    go : (t : Bool) → leb (length p) 141 ≡ t → read (keptOf p) ≡ read p
-    go true e = ap read (take-all 141 p (leb-true (length p) 141 e))
+    go : (t : Bool) → leb (length p) holdLength ≡ t → read (keptOf p) ≡ read p
+    go true e = ap read (take-all holdLength p (leb-true (length p) holdLength e))
     go false e =
-        let h = leb-false (length p) 141 e in
-        too-long (keptOf p) (omega (arith, length-take 141 p)) ∙ sym (too-long p (omega arith))
+        let h = leb-false (length p) holdLength e in
+        too-long (keptOf p) (omega (arith, length-take holdLength p)) ∙ sym (too-long p (omega arith))
 
 take-front : (n : ℕ) (p q : List ℕ) → take n (take n p ++ q) ≡ take n (p ++ q)
 take-front zero p q = refl
@@ -36,7 +36,7 @@ take-front (suc n) [] q = refl
 take-front (suc n) (b ∷ p) q = ap (λ l. b ∷ l) (take-front n p q)
 
 read-kept-then : (p q : List ℕ) → read (keptOf p ++ q) ≡ read (p ++ q)
-read-kept-then p q = sym (read-kept (keptOf p ++ q)) ∙ ap read (take-front 141 p q) ∙ read-kept (p ++ q)
+read-kept-then p q = sym (read-kept (keptOf p ++ q)) ∙ ap read (take-front holdLength p q) ∙ read-kept (p ++ q)
 
 -- ---- booking
 

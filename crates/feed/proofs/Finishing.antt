@@ -1,4 +1,4 @@
--- The end of the text: a buffer of 39,960 bytes is never too short for the sheet, and 46 more for the last piece.
+-- The end of the text: a buffer with room for the longest sheet is never too short for it, and with a refusal line more not for the last piece.
 use Prim.Native.Nat.{ℕ, _+_, _-_, _≤_}
 use native.Mathlib.Omega.{arith}
 use mathlib.Core.Path.{_≡_, ap, subst, _∙_}
@@ -13,11 +13,12 @@ use Rattle.table.specs.Tables.{sound}
 use Rattle.book.proofs.Machine.{booked-sound}
 use Rattle.row.specs.Writes.{Wrote}
 use Rattle.sheet.specs.Promises.{textOf, writingOf, sheetAnswer, sheetFrom, Sheets}
+use Rattle.sheet.specs.Texts.{longestSheet}
 use Rattle.sheet.specs.declared.Writing.{Writing}
 use Rattle.sheet.specs.declared.Writing.the-variants.{Done, Refused}
 use Rattle.sheet.proofs.Bound.{sheet-bound}
 use Rattle.sheet.proofs.Joining.{lent, back, one-text}
-use Rattle.feed.specs.Steps.{Between, between, lastSaid, lastTable, finished}
+use Rattle.feed.specs.Steps.{Between, between, longest, lastSaid, lastTable, finished, roomAtEnd}
 use Rattle.feed.proofs.Longest.{said-most}
 
 -- ---- the sheet
@@ -28,7 +29,7 @@ refusal-apart x y a n q w e = let z : _≡_ {A = ℕ} 0 1 = cc in omega arith
 done-so : (x : Writing) (a : Answer ℕ) (n m : ℕ) → x ≡ Done n → writingOf x ≡ a → a ≡ value m → n ≡ m
 done-so x a n m q w e = cc
 
-module _ (s before : List ℕ) (e : sound s ≡ true) (h : 39960 ≤ length before) where
+module _ (s before : List ℕ) (e : sound s ≡ true) (h : longestSheet ≤ length before) where
   sheet-done : sheetAnswer s before ≡ value (length (textOf s))
   unfolding sheetAnswer
   sheet-done = rw (e, le-ltb (length before) (length (textOf s)) (omega (arith, sheet-bound s e)))
@@ -45,7 +46,7 @@ module _ (s before : List ℕ) (e : sound s ≡ true) (h : 39960 ≤ length befo
 
 -- ---- the last piece, and the sheet behind it
 
-last-most : (x : Between) → length (lastSaid x) ≤ 46
+last-most : (x : Between) → length (lastSaid x) ≤ longest
 last-most (between [] l t) = omega arith
 last-most (between (b ∷ p) l t) = said-most l t (b ∷ p)
 
@@ -53,7 +54,7 @@ last-sound : (held : List ℕ) (l : ℕ) (t : List ℕ) → sound t ≡ true →
 last-sound [] l t e = e
 last-sound (b ∷ p) l t e = booked-sound t (b ∷ p) e
 
-pub finished-most : (held : List ℕ) (l : ℕ) (t : List ℕ) → sound t ≡ true → length (finished (between held l t)) ≤ 40006
+pub finished-most : (held : List ℕ) (l : ℕ) (t : List ℕ) → sound t ≡ true → length (finished (between held l t)) ≤ roomAtEnd
 finished-most held l t e =
     let x = between held l t in
     omega (arith, length-append (lastSaid x) (textOf (lastTable x)), last-most x, sheet-bound (lastTable x) (last-sound held l t e))
@@ -63,14 +64,14 @@ module _ (held : List ℕ) (l : ℕ) (t : List ℕ) {t₁ : List ℕ} (e : t₁ 
   table-sound h = ap sound e ∙ last-sound held l t h
 
   module _ {before mid : List ℕ} {w : ℕ} (a : Wrote (lastSaid (between held l t)) before mid w) where
-    pub behind-last : 40006 ≤ length before → (w ≤ length mid) × (39960 ≤ length (lent w mid))
+    pub behind-last : roomAtEnd ≤ length before → (w ≤ length mid) × (longestSheet ≤ length (lent w mid))
     behind-last h =
         let few = last-most (between held l t) in
         let same : length mid ≡ length before = ap length (a .out) ∙ length-sets before 0 (lastSaid (between held l t)) in
         (omega (arith, a .long), omega (arith, a .long, length-take (length mid - w) (drop w mid), length-drop w mid))
 
     module _ {last : List ℕ} {r : ℕ} (b : Wrote (textOf t₁) (lent w mid) last r) where
-      pub all-room : sound t ≡ true → w + r ≤ 40006
+      pub all-room : sound t ≡ true → w + r ≤ roomAtEnd
       all-room h = omega (arith, a .long, b .long, last-most (between held l t), sheet-bound t₁ (table-sound h))
 
       pub all-written : Wrote (finished (between held l t)) before (back w mid last) (w + r)

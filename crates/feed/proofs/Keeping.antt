@@ -7,7 +7,7 @@ use mathlib.Core.Logic.{_⊎_, inl, inr}
 use mathlib.Core.List.{List, _++_}
 use lib.ListN.{length, take, length-append, length-take}
 use lib.Seq.{sets, sets-eq, length-sets, length-take-le, take-at, take-all, take-append-add}
-use Rattle.feed.specs.Steps.{heldIn, keptOf}
+use Rattle.feed.specs.Steps.{heldIn, holdLength, keptOf}
 
 -- as much of a part as there is room for
 abbrev pub Least : ℕ → ℕ → ℕ → Type 0
@@ -21,14 +21,14 @@ least-take : (part : List ℕ) (n room : ℕ) → Least n (length part) room →
 least-take part n room (inl (e, h)) = take-all n part (omega arith) ∙ sym (take-all room part (omega arith))
 least-take part n room (inr (e, h)) = ap (λ k. take k part) e
 
-module _ (hold part : List ℕ) (held n : ℕ) (long : length hold ≡ 141) (few : held ≤ 141) (least : Least n (length part) (141 - held)) where
+module _ (hold part : List ℕ) (held n : ℕ) (long : length hold ≡ holdLength) (few : held ≤ holdLength) (least : Least n (length part) (holdLength - held)) where
   pub keep-fits : held + length (take (n - 0) part) ≤ length hold
-  keep-fits = let m = least-most n (length part) (141 - held) least in omega (arith, length-take (n - 0) part)
+  keep-fits = let m = least-most n (length part) (holdLength - held) least in omega (arith, length-take (n - 0) part)
 
   -- the front of what is held, and the part behind it
   held-then : heldIn (sets hold held (take n part)) (held + n) ≡ heldIn hold held ++ take n part
   held-then =
-      let m = least-most n (length part) (141 - held) least in
+      let m = least-most n (length part) (holdLength - held) least in
       let front : length (take held hold) ≡ held = length-take-le held hold (omega arith) in
       let run : length (take n part) ≡ n = length-take-le n part (m .0) in
       let fits : held + length (take n part) ≤ length hold = omega arith in
@@ -36,15 +36,15 @@ module _ (hold part : List ℕ) (held n : ℕ) (long : length hold ≡ 141) (few
       ap (take (held + n)) (sets-eq (take n part) hold held fits)
       ∙ take-at (take held hold ++ take n part) _ (held + n) both
 
-  kept-then : keptOf (heldIn hold held ++ part) ≡ heldIn hold held ++ take (141 - held) part
+  kept-then : keptOf (heldIn hold held ++ part) ≡ heldIn hold held ++ take (holdLength - held) part
   kept-then =
       let front : length (take held hold) ≡ held = length-take-le held hold (omega arith) in
-      let all : 141 ≡ length (take held hold) + (141 - held) = omega arith in
-      ap (λ k. take k (take held hold ++ part)) all ∙ take-append-add (take held hold) part (141 - held)
+      let all : holdLength ≡ length (take held hold) + (holdLength - held) = omega arith in
+      ap (λ k. take k (take held hold ++ part)) all ∙ take-append-add (take held hold) part (holdLength - held)
 
   pub keeps : (after : List ℕ) → after ≡ sets hold held (take (n - 0) part)
-      → (heldIn after (held + n) ≡ keptOf (heldIn hold held ++ part)) × ((held + n ≤ 141) × (length after ≡ 141))
+      → (heldIn after (held + n) ≡ keptOf (heldIn hold held ++ part)) × ((held + n ≤ holdLength) × (length after ≡ holdLength))
   keeps after e = (
-    rw (e, sub-zero) (held-then ∙ rw (least-take part n (141 - held) least) (sym kept-then)),
-    (omega (arith, least-most n (length part) (141 - held) least), ap length e ∙ length-sets hold held (take (n - 0) part) ∙ long),
+    rw (e, sub-zero) (held-then ∙ rw (least-take part n (holdLength - held) least) (sym kept-then)),
+    (omega (arith, least-most n (length part) (holdLength - held) least), ap length e ∙ length-sets hold held (take (n - 0) part) ∙ long),
   )

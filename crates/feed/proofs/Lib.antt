@@ -8,6 +8,5 @@ pub mod Numbering
 pub mod Remaining
 pub mod Reporting
 pub mod Saying
-pub mod Starting
 pub mod Turns
 pub mod Whole

@@ -15,7 +15,7 @@ use Rattle.piece.specs.Pieces.{pieces}
 use Rattle.piece.proofs.Begun.{joinRun, begun, ended-then}
 use Rattle.piece.proofs.Cutting.{pieces-cut}
 use Rattle.feed.specs.Printed.{report}
-use Rattle.feed.specs.Steps.{Between, between, keptOf, longest, nextLine, Step, step, usedOf, textIn, keptIn, after, stepOver, stepFrom, finished}
+use Rattle.feed.specs.Steps.{Between, between, holdLength, keptOf, longest, nextLine, Step, step, usedOf, textIn, keptIn, after, stepOver, stepFrom, finished}
 use Rattle.feed.proofs.Endings.{none-both, none-front, unended, ended, ended-behind}
 use Rattle.feed.proofs.Enough.{kept-answer, kept-bytes, then-answer, then-bytes}
 
@@ -46,7 +46,7 @@ module _ (l : ℕ) (s : List ℕ) where
   held-kept : (p text : List ℕ) → member 10 p ≡ false → left (between p l s) text ≡ left (between (keptOf p) l s) text
   held-kept p text e =
       ap (leftFrom l s) (begun p text e) ∙ run-kept p (pieces text)
-      ∙ sym (ap (leftFrom l s) (begun (keptOf p) text (none-front 141 p e)))
+      ∙ sym (ap (leftFrom l s) (begun (keptOf p) text (none-front holdLength p e)))
 
 -- ---- a step
 
@@ -66,7 +66,7 @@ module _ (held : List ℕ) (l : ℕ) (s : List ℕ) (none : member 10 held ≡ f
             λ text.
             ap (λ t. leftFrom l s (pieces t)) (sym (append-assoc held p text)) ∙ held-kept l s (held ++ p) text (none-both held p none n)
             ∙ ap (λ t. left (between (keptOf (held ++ p)) l s) (t ++ text)) (sym (drop-length p));
-        unbroken = none-front 141 (held ++ p) (none-both held p none n);
+        unbroken = none-front holdLength (held ++ p) (none-both held p none n);
       }
 
   books : (p t : List ℕ) → Ended p → (y : Step) → Goes (between [] (nextLine l) (bookBytes s (held ++ p))) t y

@@ -35,7 +35,7 @@ field-put x f at l₀ l₁ l₂ r e h p = rw e (then (run-put fieldWord h) p)
 -- ---- how long it is
 
 -- a field is a u8
-few : (x : Refusal) → Is (row the-type) x (val the-type the-laws x ∷ []) → (numberOf x ≤ 12) × (fieldOf x ≤ 255)
+few : (x : Refusal) → Is (row the-type) x (val the-type the-laws x ∷ []) → (numberOf x ≤ 99) × (fieldOf x ≤ 255)
 few NoLine g = (omega arith, omega arith)
 few BadByte g = (omega arith, omega arith)
 few (Field f) g = (omega arith, omega (arith, g))

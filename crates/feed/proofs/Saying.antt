@@ -13,7 +13,7 @@ use Rattle.book.specs.declared.Booking.{Booking}
 use Rattle.book.specs.declared.Booking.the-variants.{Booked, Refused}
 use Rattle.row.specs.Writes.{Wrote}
 use Rattle.feed.specs.Printed.{refusalLine, report}
-use Rattle.feed.specs.Steps.{between, keptOf, heldIn, lastSaid, lastTable}
+use Rattle.feed.specs.Steps.{between, heldIn, holdLength, keptOf, lastSaid, lastTable}
 use Rattle.feed.proofs.Enough.{kept-answer, kept-bytes}
 
 -- r bytes are written for the piece p, and the table is then `after`
@@ -40,7 +40,7 @@ module _ (line : ℕ) (t : List ℕ) {before out : List ℕ} {r : ℕ} {after : 
   pub kept-says : (kept p : List ℕ) → kept ≡ keptOf p → Says line t kept before out r after → Says line t p before out r after
   kept-says kept p e s = (rw (← kept-answer t p, ← e) (s .0), s .1 ∙ rw e (kept-bytes t p))
 
-  pub last-says : (hold : List ℕ) (held : ℕ) → length hold ≡ 141 → (held ≡ 0 → ⊥) → Says line t (heldIn hold held) before out r after
+  pub last-says : (hold : List ℕ) (held : ℕ) → length hold ≡ holdLength → (held ≡ 0 → ⊥) → Says line t (heldIn hold held) before out r after
       → Wrote (lastSaid (between (heldIn hold held) line t)) before out r × (after ≡ lastTable (between (heldIn hold held) line t))
   last-says [] held long some s = absurd (omega arith)
   last-says (b ∷ hold) zero long some s = absurd (some refl)

@@ -19,7 +19,7 @@ use Rattle.piece.specs.Pieces.{pieces, pieceLength}
 use Rattle.piece.proofs.Firsts.{first-piece-at}
 use Rattle.piece.proofs.Lengths.{piece-some, piece-inside}
 use Rattle.feed.specs.Printed.{report}
-use Rattle.feed.specs.Steps.{Between, between, keptOf, nextLine, endsInLF, Step, step, after, stepOver, stepFrom, heldIn, Fits}
+use Rattle.feed.specs.Steps.{Between, between, holdLength, keptOf, longest, nextLine, endsInLF, Step, step, after, stepOver, stepFrom, heldIn, Fits}
 use Rattle.feed.proofs.Endings.{part-ends}
 use Rattle.feed.proofs.Longest.{said-most}
 use Rattle.feed.proofs.Saying.{Says}
@@ -36,8 +36,8 @@ pub record Turn (x : Step) (chunk before t hold out : List ℕ) (used wrote kept
   pub inside : used ≤ length chunk
   pub room : wrote ≤ length before
   pub good : sound t ≡ true
-  pub long : length hold ≡ 141
-  pub few : kept ≤ 141
+  pub long : length hold ≡ holdLength
+  pub few : kept ≤ holdLength
 
 -- ---- steps behind steps
 
@@ -52,7 +52,7 @@ after-after n m x y (step used text kept) = rw (add-assoc n m used, append-assoc
 
 -- ---- the first turn
 
-pub first-turn : (chunk t hold out : List ℕ) (held line : ℕ) → sound t ≡ true → length hold ≡ 141 → held ≤ 141
+pub first-turn : (chunk t hold out : List ℕ) (held line : ℕ) → sound t ≡ true → length hold ≡ holdLength → held ≤ holdLength
     → Turn (stepFrom (length out) (between (heldIn hold held) line t) chunk) chunk out t hold out 0 0 held line
 first-turn chunk t hold out held line good long few =
     record {
@@ -96,7 +96,7 @@ module _ (chunk : List ℕ) (used end : ℕ) (more : used < length chunk) (e : e
 -- ---- what the code answers
 
 fits : {x : Step} {before t hold out : List ℕ} {u w h l : ℕ} (y : List ℕ) (k : Between) → x ≡ step u y k → Wrote y before out w
-    → between (heldIn hold h) l t ≡ k → length hold ≡ 141 → h ≤ 141
+    → between (heldIn hold h) l t ≡ k → length hold ≡ holdLength → h ≤ holdLength
     → Fits x before (record { used = u; wrote = w; held = h; line = l }) t hold out
 fits y k e w same long few =
     rw e (record { used = refl; wrote = w .long; written = w .out; kept = same; long = long; few = few })
@@ -111,10 +111,10 @@ module _ {x : Step} {chunk before t hold out : List ℕ} {used wrote kept number
   pub same-long : length out ≡ length before
   same-long = ap length (turn .said .out) ∙ length-sets before 0 (turn .text)
 
-  pub room-lent : 46 ≤ length out - wrote → 46 ≤ length (lent wrote out)
+  pub room-lent : longest ≤ length out - wrote → longest ≤ length (lent wrote out)
   room-lent h = omega (arith, length-take (length out - wrote) (drop wrote out), length-drop wrote out)
 
-  pub room-said : 46 ≤ length out - wrote → (q : List ℕ) {last : List ℕ} {r : ℕ} → Wrote (report number (bookAnswer t q)) (lent wrote out) last r
+  pub room-said : longest ≤ length out - wrote → (q : List ℕ) {last : List ℕ} {r : ℕ} → Wrote (report number (bookAnswer t q)) (lent wrote out) last r
       → wrote + r ≤ length before
   room-said h q w = omega (arith, same-long, w .long, said-most number t q)
 
@@ -130,7 +130,7 @@ module _ {x : Step} {chunk before t hold out : List ℕ} {used wrote kept number
     p = part chunk used end
 
     -- the piece does not end in this chunk
-    pub keeps-begun : (getD chunk (end - 1) 0 ≡ 10 → ⊥) → {last : List ℕ} {n : ℕ} → heldIn last n ≡ keptOf (begun ++ p) → n ≤ 141 → length last ≡ 141
+    pub keeps-begun : (getD chunk (end - 1) 0 ≡ 10 → ⊥) → {last : List ℕ} {n : ℕ} → heldIn last n ≡ keptOf (begun ++ p) → n ≤ holdLength → length last ≡ holdLength
         → Fits x before (record { used = end; wrote = wrote; held = n; line = number }) t last out
     keeps-begun lf {last} {n} k few long =
         let b = between (keptOf (begun ++ p)) number t in
@@ -140,21 +140,21 @@ module _ {x : Step} {chunk before t hold out : List ℕ} {used wrote kept number
 
     module _ (lf : getD chunk (end - 1) 0 ≡ 10) where
       -- it ends, and there might be no room
-      pub stops : length out - wrote < 46 → Fits x before (record { used = used; wrote = wrote; held = kept; line = number }) t hold out
+      pub stops : length out - wrote < longest → Fits x before (record { used = used; wrote = wrote; held = kept; line = number }) t hold out
       stops h =
           let b = between begun number t in
-          let little : room < 46 = omega (arith, same-long) in
-          let over : ahead room hold kept number t (drop used chunk) ≡ step 0 [] b = rw (next-piece chunk used end more e, ends-so chunk used end more e, eq-eqb (getD chunk (end - 1) 0) 10 lf, lt-ltb room 46 little) in
+          let little : room < longest = omega (arith, same-long) in
+          let over : ahead room hold kept number t (drop used chunk) ≡ step 0 [] b = rw (next-piece chunk used end more e, ends-so chunk used end more e, eq-eqb (getD chunk (end - 1) 0) 10 lf, lt-ltb room longest little) in
           fits (turn .text) b (turn .whole ∙ rw over (none-after used (turn .text) b)) (turn .said) refl (turn .long) (turn .few)
 
       -- it ends, and is booked
-      pub next-turn : 46 ≤ length out - wrote → {last t₁ hold₁ : List ℕ} {r l : ℕ} → Says number t (begun ++ p) (lent wrote out) last r t₁
-          → length hold₁ ≡ 141 → l ≡ nextLine number → Turn x chunk before t₁ hold₁ (back wrote out last) end (wrote + r) 0 l
+      pub next-turn : longest ≤ length out - wrote → {last t₁ hold₁ : List ℕ} {r l : ℕ} → Says number t (begun ++ p) (lent wrote out) last r t₁
+          → length hold₁ ≡ holdLength → l ≡ nextLine number → Turn x chunk before t₁ hold₁ (back wrote out last) end (wrote + r) 0 l
       next-turn h {last} {t₁} {hold₁} {r} {l} (w, f) long n =
           let said = report number (bookAnswer t (begun ++ p)) in
           let rest = stepOver (room - length said) [] (nextLine number) (bookBytes t (begun ++ p)) (pieces (drop end chunk)) in
-          let much : 46 ≤ room = omega (arith, same-long) in
-          let over : ahead room hold kept number t (drop used chunk) ≡ after (length p) said rest = rw (next-piece chunk used end more e, ends-so chunk used end more e, eq-eqb (getD chunk (end - 1) 0) 10 lf, le-ltb room 46 much) in
+          let much : longest ≤ room = omega (arith, same-long) in
+          let over : ahead room hold kept number t (drop used chunk) ≡ after (length p) said rest = rw (next-piece chunk used end more e, ends-so chunk used end more e, eq-eqb (getD chunk (end - 1) 0) 10 lf, le-ltb room longest much) in
           let left : room - length said ≡ length before - (wrote + r) = omega (arith, w .long) in
           let one : after used (turn .text) (ahead room hold kept number t (drop used chunk)) ≡ after (used + length p) (turn .text ++ said) rest = rw over (after-after used (length p) (turn .text) said rest) in
           record {

@@ -8,6 +8,7 @@ use lib.ListN.{length, take}
 use lib.Seq.{sets}
 use Rattle.book.specs.Bytes.{bookBytes, bookAnswer}
 use Rattle.sheet.specs.Promises.{textOf}
+use Rattle.sheet.specs.Texts.{longestSheet}
 use Rattle.piece.specs.Pieces.{pieces}
 use Rattle.feed.specs.Printed.{report}
 use Rattle.feed.specs.declared.Fed.{Fed}
@@ -16,13 +17,20 @@ use Rattle.feed.specs.declared.Fed.{Fed}
 pub data Between : Type 0 where
   between : (held : List ℕ) (line : ℕ) (table : List ℕ) → Between
 
--- no more of a piece is held than shows that it is too long
+-- the hold: no more of a piece than shows that it is too long, one byte more than a line
+abbrev pub holdLength : ℕ
+holdLength = 141
+
 abbrev pub keptOf : List ℕ → List ℕ
-keptOf p = take 141 p
+keptOf p = take holdLength p
 
 -- the longest refusal line has 46 bytes
 abbrev pub longest : ℕ
 longest = 46
+
+-- the end of the text: a refusal line for the last piece, and the sheet
+abbrev pub roomAtEnd : ℕ
+roomAtEnd = longest + longestSheet
 
 -- a number of 64 bits does not grow past the last; `Whole` asks for fewer pieces than that
 abbrev pub nextLine : ℕ → ℕ
@@ -88,5 +96,5 @@ pub record Fits (x : Step) (before : List ℕ) (r : Fed) (table hold out : List 
   pub wrote : r .wrote ≡ length (textIn x)
   pub written : out ≡ sets before 0 (textIn x)
   pub kept : between (heldIn hold (r .held)) (r .line) table ≡ keptIn x
-  pub long : length hold ≡ 141
-  pub few : r .held ≤ 141
+  pub long : length hold ≡ holdLength
+  pub few : r .held ≤ holdLength

@@ -8,22 +8,20 @@ ghost use Rattle.book.specs.Bytes.{bookAnswer, bookBytes};
 ghost use Rattle.table.specs.Tables.{sound};
 ghost use Rattle.row.specs.Writes.{Wrote};
 ghost use Rattle.feed.specs.Printed.{report as Printed·report};
-ghost use Rattle.feed.specs.Steps.{heldIn, keptOf};
+ghost use Rattle.feed.specs.Steps.{heldIn, holdLength, keptOf, longest};
+use crate::HOLD;
 use crate::report;
 use book::Booking;
 use field::put;
 
-// One byte more than a line, so that a piece that is too long is seen to be.
-const KEPT: usize = 141;
-
 // A part of a piece behind what is held of it.
 pub fn keep(hold: &mut [u8], held: usize, part: &[u8]) -> usize
-    requires { ⌜ length (now hold) ≡ 141 ⌝ }
-    requires { ⌜ held ≤ 141 ⌝ }
+    requires { ⌜ length (now hold) ≡ holdLength ⌝ }
+    requires { ⌜ held ≤ holdLength ⌝ }
     ensures { λ r. ⌜ heldIn (now (hold .exit)) r ≡ keptOf (heldIn (now (hold .entry)) held ++ now (part .entry)) ⌝ }
-    ensures { λ r. ⌜ (r ≤ 141) × (length (now (hold .exit)) ≡ 141) ⌝ }
+    ensures { λ r. ⌜ (r ≤ holdLength) × (length (now (hold .exit)) ≡ holdLength) ⌝ }
 {
-    let room = KEPT - held;
+    let room = HOLD - held;
     let n = if part.len() < room { part.len() } else { room };
     put::run(hold, held, &part[0..n]);
     held + n
@@ -31,7 +29,7 @@ pub fn keep(hold: &mut [u8], held: usize, part: &[u8]) -> usize
 
 fn book_piece(t: &mut [u8], piece: &[u8], line: u64, out: &mut [u8]) -> usize
     requires { ⌜ sound (now t) ≡ true ⌝ }
-    requires { ⌜ 46 ≤ length (now out) ⌝ }
+    requires { ⌜ longest ≤ length (now out) ⌝ }
     ensures { λ r. ⌜ Wrote (Printed·report line (bookAnswer (now (t .entry)) (now (piece .entry)))) (now (out .entry)) (now (out .exit)) r ⌝ }
     ensures { λ _. ⌜ now (t .exit) ≡ bookBytes (now (t .entry)) (now (piece .entry)) ⌝ }
 {
@@ -44,7 +42,7 @@ fn book_piece(t: &mut [u8], piece: &[u8], line: u64, out: &mut [u8]) -> usize
 pub fn book_held(t: &mut [u8], hold: &[u8], held: usize, line: u64, out: &mut [u8]) -> usize
     requires { ⌜ sound (now t) ≡ true ⌝ }
     requires { ⌜ held ≤ length (now hold) ⌝ }
-    requires { ⌜ 46 ≤ length (now out) ⌝ }
+    requires { ⌜ longest ≤ length (now out) ⌝ }
     ensures { λ r. ⌜ Wrote (Printed·report line (bookAnswer (now (t .entry)) (heldIn (now (hold .entry)) held))) (now (out .entry)) (now (out .exit)) r ⌝ }
     ensures { λ _. ⌜ now (t .exit) ≡ bookBytes (now (t .entry)) (heldIn (now (hold .entry)) held) ⌝ }
 {
@@ -61,12 +59,12 @@ pub fn book_part(
     out: &mut [u8],
 ) -> usize
     requires { ⌜ sound (now t) ≡ true ⌝ }
-    requires { ⌜ length (now hold) ≡ 141 ⌝ }
-    requires { ⌜ held ≤ 141 ⌝ }
-    requires { ⌜ 46 ≤ length (now out) ⌝ }
+    requires { ⌜ length (now hold) ≡ holdLength ⌝ }
+    requires { ⌜ held ≤ holdLength ⌝ }
+    requires { ⌜ longest ≤ length (now out) ⌝ }
     ensures { λ r. ⌜ Wrote (Printed·report line (bookAnswer (now (t .entry)) (heldIn (now (hold .entry)) held ++ now (part .entry)))) (now (out .entry)) (now (out .exit)) r ⌝ }
     ensures { λ _. ⌜ now (t .exit) ≡ bookBytes (now (t .entry)) (heldIn (now (hold .entry)) held ++ now (part .entry)) ⌝ }
-    ensures { λ _. ⌜ length (now (hold .exit)) ≡ 141 ⌝ }
+    ensures { λ _. ⌜ length (now (hold .exit)) ≡ holdLength ⌝ }
 {
     if held == 0 {
         return book_piece(t, part, line, out);

@@ -6,12 +6,16 @@ ghost use lib.ListN.{length};
 ghost use Rattle.table.specs.Tables.{sound};
 ghost use Rattle.row.specs.Writes.{Wrote};
 ghost use Rattle.sheet.specs.Promises.{textOf};
-ghost use Rattle.feed.specs.Steps.{Fits, between, finished, heldIn, lastSaid, lastTable, nextLine, stepFrom};
+ghost use Rattle.sheet.specs.Texts.{longestSheet};
+ghost use Rattle.feed.specs.Steps.{Fits, between, finished, heldIn, holdLength, lastSaid, lastTable, longest, nextLine, roomAtEnd, stepFrom};
 
 mod hold;
 mod report;
 
 use sheet::Writing;
+
+// One byte more than a line, so that a piece that is too long is seen to be.
+pub const HOLD: usize = 141;
 
 // The longest refusal line.
 const LONGEST: usize = 46;
@@ -43,8 +47,8 @@ pub fn step(
     out: &mut [u8],
 ) -> Fed
     requires { ⌜ sound (now t) ≡ true ⌝ }
-    requires { ⌜ length (now hold) ≡ 141 ⌝ }
-    requires { ⌜ held ≤ 141 ⌝ }
+    requires { ⌜ length (now hold) ≡ holdLength ⌝ }
+    requires { ⌜ held ≤ holdLength ⌝ }
     ensures { λ r. ⌜ Fits (stepFrom (length (now (out .entry))) (between (heldIn (now (hold .entry)) held) line (now (t .entry))) (now (chunk .entry))) (now (out .entry)) r (now (t .exit)) (now (hold .exit)) (now (out .exit)) ⌝ }
     ensures { λ _. ⌜ sound (now (t .exit)) ≡ true ⌝ }
 {
@@ -88,9 +92,9 @@ pub fn step(
 // What is held when the text ends is the last piece.
 fn book_last(t: &mut [u8], hold: &[u8], held: usize, line: u64, out: &mut [u8]) -> usize
     requires { ⌜ sound (now t) ≡ true ⌝ }
-    requires { ⌜ length (now hold) ≡ 141 ⌝ }
-    requires { ⌜ held ≤ 141 ⌝ }
-    requires { ⌜ 46 ≤ length (now out) ⌝ }
+    requires { ⌜ length (now hold) ≡ holdLength ⌝ }
+    requires { ⌜ held ≤ holdLength ⌝ }
+    requires { ⌜ longest ≤ length (now out) ⌝ }
     ensures { λ r. ⌜ Wrote (lastSaid (between (heldIn (now (hold .entry)) held) line (now (t .entry)))) (now (out .entry)) (now (out .exit)) r ⌝ }
     ensures { λ _. ⌜ now (t .exit) ≡ lastTable (between (heldIn (now (hold .entry)) held) line (now (t .entry))) ⌝ }
 {
@@ -100,10 +104,10 @@ fn book_last(t: &mut [u8], hold: &[u8], held: usize, line: u64, out: &mut [u8]) 
     hold::book_held(t, hold, held, line, out)
 }
 
-// A buffer of 39,960 bytes is never too short for the sheet.
+// A buffer with room for the longest sheet is never refused.
 fn sheet_of(t: &[u8], out: &mut [u8]) -> usize
     requires { ⌜ sound (now t) ≡ true ⌝ }
-    requires { ⌜ 39960 ≤ length (now out) ⌝ }
+    requires { ⌜ longestSheet ≤ length (now out) ⌝ }
     ensures { λ r. ⌜ Wrote (textOf (now (t .entry))) (now (out .entry)) (now (out .exit)) r ⌝ }
 {
     let Writing::Done(n) = sheet::write_sound(t, out) else {
@@ -115,9 +119,9 @@ fn sheet_of(t: &[u8], out: &mut [u8]) -> usize
 // The end of the text: the last piece, and behind it the sheet.
 pub fn finish(t: &mut [u8], hold: &[u8], held: usize, line: u64, out: &mut [u8]) -> usize
     requires { ⌜ sound (now t) ≡ true ⌝ }
-    requires { ⌜ length (now hold) ≡ 141 ⌝ }
-    requires { ⌜ held ≤ 141 ⌝ }
-    requires { ⌜ 40006 ≤ length (now out) ⌝ }
+    requires { ⌜ length (now hold) ≡ holdLength ⌝ }
+    requires { ⌜ held ≤ holdLength ⌝ }
+    requires { ⌜ roomAtEnd ≤ length (now out) ⌝ }
     ensures { λ r. ⌜ Wrote (finished (between (heldIn (now (hold .entry)) held) line (now (t .entry)))) (now (out .entry)) (now (out .exit)) r ⌝ }
     ensures { λ _. ⌜ now (t .exit) ≡ lastTable (between (heldIn (now (hold .entry)) held) line (now (t .entry))) ⌝ }
 {

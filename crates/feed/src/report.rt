@@ -4,6 +4,7 @@ ghost use lib.ListN.{length};
 ghost use Rattle.refusal.specs.Numbers.{numberOf, fieldOf};
 ghost use Rattle.row.specs.Writes.{Put, Wrote};
 ghost use Rattle.feed.specs.Printed.{fieldText, refusalLine};
+ghost use Rattle.feed.specs.Steps.{longest};
 use field::put;
 use refusal::Refusal;
 use row::decimal;
@@ -20,7 +21,7 @@ fn put_field(out: &mut [u8], at: usize, x: Refusal) -> usize
 }
 
 pub fn refused(line: u64, x: Refusal, out: &mut [u8]) -> usize
-    requires { ⌜ 46 ≤ length (now out) ⌝ }
+    requires { ⌜ longest ≤ length (now out) ⌝ }
     ensures { λ r. ⌜ Wrote (refusalLine line (numberOf x) (fieldOf x)) (now (out .entry)) (now (out .exit)) r ⌝ }
 {
     put::run(out, 0, b"line ");

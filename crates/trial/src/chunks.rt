@@ -9,24 +9,5 @@ pub fn case(s: &[u8]) -> bool {
         return false;
     }
     let text = 6 + count * 2;
-    feed(cell::get(s, 0, 4) as usize, &s[6..text], &s[text..])
-}
-
-fn feed(room: usize, sizes: &[u8], text: &[u8]) -> bool {
-    if room < 64 {
-        return false;
-    }
-    if 60_000 < room {
-        return false;
-    }
-    if sizes.len() < 2 {
-        return false;
-    }
-    if trial_chunks::any_zero(sizes) {
-        return false;
-    }
-    say::text(b"fed [");
-    trial_chunks::feed_all(text, sizes, room);
-    say::text(b"]");
-    true
+    trial_chunks::feed_all(&s[text..], &s[6..text], cell::get(s, 0, 4) as usize)
 }

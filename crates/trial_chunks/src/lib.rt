@@ -3,11 +3,54 @@ ghost use Prim.Native.Nat.{_+_, _≤_, _<_};
 ghost use mathlib.Core.Path.{_≡_};
 ghost use mathlib.Core.Bool.{true};
 ghost use lib.ListN.{length};
-ghost use Rattle.table.specs.Tables.{sound};
+ghost use Rattle.table.specs.Tables.{sound, tableLength};
+ghost use Rattle.feed.specs.Steps.{holdLength, longest, roomAtEnd};
 use chunk::Kept;
 
+// The least room of a case; the most is all of the output.
+const LEAST: usize = 64;
+
+// All that the sheet program writes for the text. A case that answers false has printed nothing.
+pub fn feed_all(text: &[u8], sizes: &[u8], room: usize) -> bool {
+    let mut table = [0u8; table::TABLE];
+    let mut hold = [0u8; feed::HOLD];
+    let mut out = output();
+    feed_good(text, sizes, room, &mut table, &mut hold, &mut out)
+}
+
+// In lent buffers, if the room and the sizes are a case's.
+fn feed_good(
+    text: &[u8],
+    sizes: &[u8],
+    room: usize,
+    t: &mut [u8],
+    hold: &mut [u8],
+    out: &mut [u8],
+) -> bool
+    requires { ⌜ length (now t) ≡ tableLength 512 ⌝ }
+    requires { ⌜ length (now hold) ≡ holdLength ⌝ }
+    requires { ⌜ roomAtEnd ≤ length (now out) ⌝ }
+{
+    if room < LEAST {
+        return false;
+    }
+    if out.len() < room {
+        return false;
+    }
+    if sizes.len() < 2 {
+        return false;
+    }
+    if any_zero(sizes) {
+        return false;
+    }
+    say::text(b"fed [");
+    feed_in(text, sizes, room, t, hold, out);
+    say::text(b"]");
+    true
+}
+
 // Whether one of the sizes, of two bytes each, is 0.
-pub fn any_zero(sizes: &[u8]) -> bool {
+fn any_zero(sizes: &[u8]) -> bool {
     let mut i = 0;
     while i < sizes.len() / 2 {
         if cell::zeros(sizes, i * 2, 2) {
@@ -18,24 +61,13 @@ pub fn any_zero(sizes: &[u8]) -> bool {
     false
 }
 
-// All that the sheet program writes for the text; each step may write room bytes.
-pub fn feed_all(text: &[u8], sizes: &[u8], room: usize)
-    requires { ⌜ 2 ≤ length (now sizes) ⌝ }
-    requires { ⌜ (64 ≤ room) × (room ≤ 60000) ⌝ }
-{
-    let mut table = [0u8; 40_968];
-    let mut hold = [0u8; 141];
-    let mut out = output();
-    feed_in(text, sizes, room, &mut table, &mut hold, &mut out);
-}
-
-// In lent buffers. Each step may write room bytes; what comes at the end may be longer.
+// Each step may write room bytes; what comes at the end may be longer.
 fn feed_in(text: &[u8], sizes: &[u8], room: usize, t: &mut [u8], hold: &mut [u8], out: &mut [u8])
     requires { ⌜ 2 ≤ length (now sizes) ⌝ }
-    requires { ⌜ (64 ≤ room) × (room ≤ 60000) ⌝ }
-    requires { ⌜ length (now t) ≡ 40968 ⌝ }
-    requires { ⌜ length (now hold) ≡ 141 ⌝ }
-    requires { ⌜ length (now out) ≡ 60000 ⌝ }
+    requires { ⌜ (longest ≤ room) × (room ≤ length (now out)) ⌝ }
+    requires { ⌜ length (now t) ≡ tableLength 512 ⌝ }
+    requires { ⌜ length (now hold) ≡ holdLength ⌝ }
+    requires { ⌜ roomAtEnd ≤ length (now out) ⌝ }
 {
     chunk::begin(t);
     let kept = feed_chunks(text, sizes, t, hold, &mut out[0..room]);
@@ -46,9 +78,9 @@ fn feed_in(text: &[u8], sizes: &[u8], room: usize, t: &mut [u8], hold: &mut [u8]
 fn feed_chunks(text: &[u8], sizes: &[u8], t: &mut [u8], hold: &mut [u8], out: &mut [u8]) -> Kept
     requires { ⌜ 2 ≤ length (now sizes) ⌝ }
     requires { ⌜ sound (now t) ≡ true ⌝ }
-    requires { ⌜ length (now hold) ≡ 141 ⌝ }
-    requires { ⌜ 46 ≤ length (now out) ⌝ }
-    ensures { λ r. ⌜ (r .held ≤ 141) × (sound (now (t .exit)) ≡ true) × (length (now (hold .exit)) ≡ 141) ⌝ }
+    requires { ⌜ length (now hold) ≡ holdLength ⌝ }
+    requires { ⌜ longest ≤ length (now out) ⌝ }
+    ensures { λ r. ⌜ (r .held ≤ holdLength) × (sound (now (t .exit)) ≡ true) × (length (now (hold .exit)) ≡ holdLength) ⌝ }
 {
     let mut at = 0;
     let mut turn = 0;

@@ -1,9 +1,20 @@
 -- `chunk::begin`: a buffer of a table's length is never refused, and the table made is sound.
+use Prim.Native.Nat.{ℕ}
+use mathlib.Core.Path.{_≡_, ap, _∙_}
+use mathlib.Core.Bool.{true}
+use mathlib.Core.List.{List}
 use borrow.Author.Needs.{needs}
 use denote.Ref.{now}
-use Rattle.feed.proofs.Starting.{made-sound}
+use lib.ListN.{length}
+use Rattle.table.specs.Promises.{Makes}
+use Rattle.table.specs.Tables.{sound, tableLength}
+use Rattle.table.specs.declared.Made.{Made}
+use Rattle.table.proofs.Making.{empty-sound}
 use Rattle.chunk.proofs.begin.Statement.{statement}
 use Rattle.chunk.proofs.begin.Tie as tie
+
+made-sound : (before : List ℕ) {x : Made} {after : List ℕ} → length before ≡ tableLength 512 → Makes before x after → sound after ≡ true
+made-sound before e m = ap sound (m .out ∙ rw e) ∙ empty-sound before e .0
 
 make-empty-requires : tie.Need-make-empty-requires
 make-empty-requires c κs = search needs

@@ -8,14 +8,14 @@ use denote.Ref.{now}
 use lib.ListN.{length}
 use Rattle.table.specs.Tables.{sound}
 use Rattle.book.proofs.Sound.{sound-holds}
-use Rattle.feed.specs.Steps.{between, heldIn}
+use Rattle.feed.specs.Steps.{between, heldIn, holdLength}
 use Rattle.feed.proofs.Advancing.{took}
 use Rattle.chunk.proofs.take.Statement.{statement}
 use Rattle.chunk.proofs.take.Tie as tie
 
 abbrev Inv-loop : tie.InvT-loop
 Inv-loop chunk t₀ hold₀ held line out₀ used₀ kept₀ number₀ t hold out used kept number =
-    (used ≤ length chunk) × (sound t ≡ true) × (length hold ≡ 141) × (kept ≤ 141) × (length out ≡ length out₀)
+    (used ≤ length chunk) × (sound t ≡ true) × (length hold ≡ holdLength) × (kept ≤ holdLength) × (length out ≡ length out₀)
 
 abbrev μ-loop : tie.MeasureT-loop
 μ-loop chunk t₀ hold₀ held line out₀ used₀ kept₀ number₀ t hold out used kept number = length chunk - used

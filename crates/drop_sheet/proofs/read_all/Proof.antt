@@ -8,12 +8,13 @@ use denote.Ref.{now}
 use lib.ListN.{length}
 use Rattle.table.specs.Tables.{sound}
 use Rattle.book.proofs.Sound.{sound-holds}
+use Rattle.feed.specs.Steps.{holdLength}
 use Rattle.drop_sheet.proofs.read_all.Statement.{statement}
 use Rattle.drop_sheet.proofs.read_all.Tie as tie
 
 abbrev Inv-loop : tie.InvT-loop
 Inv-loop t₀ hold₀ input₀ out₀ held₀ line₀ turns₀ t hold input out held line turns =
-    (sound t ≡ true) × (length hold ≡ 141) × (held ≤ 141) × (length input ≡ length input₀) × (length out ≡ length out₀)
+    (sound t ≡ true) × (length hold ≡ holdLength) × (held ≤ holdLength) × (length input ≡ length input₀) × (length out ≡ length out₀)
 
 abbrev μ-loop : tie.MeasureT-loop
 μ-loop t₀ hold₀ input₀ out₀ held₀ line₀ turns₀ t hold input out held line turns = turns

@@ -6,14 +6,15 @@ use mathlib.Core.Bool.{true}
 use borrow.Author.Needs.{needs}
 use lib.ListN.{length}
 use Rattle.table.specs.Tables.{sound}
+use Rattle.feed.specs.Steps.{holdLength, longest}
 use Rattle.trial_chunks.proofs.feed_chunks.Statement.{statement}
 use Rattle.trial_chunks.proofs.feed_chunks.Tie as tie
 
 abbrev Inv-loop : tie.InvT-loop
 Inv-loop text sizes t₀ hold₀ out₀ at₀ turn₀ fed₀ t hold out at turn fed =
-    (at ≤ length text) × (turn + turn + 2 ≤ length sizes) × (fed .held ≤ 141) × (sound t ≡ true) × (length t ≡ length t₀)
-    × (length hold ≡ 141)
-    × (46 ≤ length out)
+    (at ≤ length text) × (turn + turn + 2 ≤ length sizes) × (fed .held ≤ holdLength) × (sound t ≡ true) × (length t ≡ length t₀)
+    × (length hold ≡ holdLength)
+    × (longest ≤ length out)
     × (length out ≡ length out₀)
 
 abbrev μ-loop : tie.MeasureT-loop
