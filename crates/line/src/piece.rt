@@ -26,13 +26,13 @@ pub fn read(piece: &[u8]) -> Reading
             line: build::blank_record(),
         };
     }
-    if piece.len() != 140 {
+    if piece.len() != rule::LINE {
         return refused(Refusal::NoLine);
     }
-    if !is_crlf(&piece[138..]) {
+    if !is_crlf(&piece[rule::FIELDS..]) {
         return refused(Refusal::NoLine);
     }
-    if !kept::all_of(&piece[0..138], Class::Printable) {
+    if !kept::all_of(&piece[0..rule::FIELDS], Class::Printable) {
         return refused(Refusal::BadByte);
     }
     event_fields(piece)

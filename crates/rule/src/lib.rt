@@ -14,6 +14,11 @@ use field::Number;
 use field::digits;
 use field::kept;
 
+// A line in bytes, CR LF included, and its fields alone.
+pub const LINE: usize = 140;
+
+pub const FIELDS: usize = 138;
+
 pub const TYPES: [u8; 6] = *b"AEXCUR";
 
 pub const CAPACITIES: [u8; 8] = *b"CFMPBOJN";
