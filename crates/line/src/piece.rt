@@ -114,7 +114,7 @@ fn account_fields(s: &[u8], n: Numbers) -> Reading
     let Bytes::Lawful = kept::text(&s[36..56]) else {
         return refused(Refusal::Field(11));
     };
-    let Bytes::Lawful = rule::replaced(&s[56..76], s[8] == b'U') else {
+    let Bytes::Lawful = rule::replaced(&s[56..76], rule::is_replace(s[8])) else {
         return refused(Refusal::Field(12));
     };
     order_fields(s, n)
