@@ -13,7 +13,8 @@ use layout::Record;
 use layout::Trade;
 use writing::Checked;
 
-pub const RECORD: usize = 138;
+// As long as the fields of its line.
+pub const RECORD: usize = rule::FIELDS;
 
 // The field of the first byte without meaning, or 0.
 pub fn unmeant(b: &[u8]) -> u8
@@ -98,7 +99,7 @@ pub fn store(r: Record, piece: &[u8], out: &mut [u8])
     requires { ⌜ 138 ≤ length (now out) ⌝ }
     ensures { λ _. ⌜ now (out .exit) ≡ sets (now (out .entry)) 0 (imageOf r) ⌝ }
 {
-    put::run(out, 0, &piece[0..138]);
+    put::run(out, 0, &piece[0..rule::FIELDS]);
     put_early(r, out);
     put_late(r, out);
     let event = r.event;

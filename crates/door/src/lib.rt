@@ -58,7 +58,7 @@ pub extern "C" fn skurzelt_read(piece: &[u8], record: &mut [u8], kind: &mut u64)
 pub extern "C" fn skurzelt_write(record: &[u8], line: &mut [u8]) -> u32
     ensures { λ r. ⌜ Writes (now («record» .entry)) (now (line .entry)) r (now (line .exit)) ⌝ }
 {
-    if line.len() < 140 {
+    if line.len() < rule::LINE {
         return code(Refusal::NoRoom);
     }
     if record.len() != image::RECORD {

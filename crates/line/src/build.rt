@@ -41,7 +41,7 @@ pub fn blank_record() -> Record
     }
 }
 
-pub fn event_of(t: u8, trade: Trade) -> Event
+fn event_of(t: u8, trade: Trade) -> Event
     ensures { λ r. ⌜ r ≡ eventOf t trade ⌝ }
 {
     if t == b'A' {

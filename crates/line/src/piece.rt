@@ -26,13 +26,13 @@ pub fn read(piece: &[u8]) -> Reading
             line: build::blank_record(),
         };
     }
-    if piece.len() != 140 {
+    if piece.len() != rule::LINE {
         return refused(Refusal::NoLine);
     }
-    if !is_crlf(&piece[138..]) {
+    if !is_crlf(&piece[rule::FIELDS..]) {
         return refused(Refusal::NoLine);
     }
-    if !kept::all_of(&piece[0..138], Class::Printable) {
+    if !kept::all_of(&piece[0..rule::FIELDS], Class::Printable) {
         return refused(Refusal::BadByte);
     }
     event_fields(piece)
@@ -114,7 +114,7 @@ fn account_fields(s: &[u8], n: Numbers) -> Reading
     let Bytes::Lawful = kept::text(&s[36..56]) else {
         return refused(Refusal::Field(11));
     };
-    let Bytes::Lawful = rule::replaced(&s[56..76], s[8] == b'U') else {
+    let Bytes::Lawful = rule::replaced(&s[56..76], rule::is_replace(s[8])) else {
         return refused(Refusal::Field(12));
     };
     order_fields(s, n)

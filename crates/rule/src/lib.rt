@@ -2,7 +2,7 @@
 ghost use Prim.Native.Nat.{_≤_};
 ghost use mathlib.Core.Bool.{_&&_};
 ghost use mathlib.Core.Path.{_≡_};
-ghost use lib.Dec.{leb};
+ghost use lib.Dec.{eqb, leb};
 ghost use lib.ListN.{length};
 ghost use Rattle.layout.specs.Layout.{isTrade, liquidities, leastStrike};
 ghost use Rattle.layout.specs.Rule.{code, text};
@@ -13,6 +13,11 @@ use field::Bytes;
 use field::Number;
 use field::digits;
 use field::kept;
+
+// A line in bytes, CR LF included, and its fields alone.
+pub const LINE: usize = 140;
+
+pub const FIELDS: usize = 138;
 
 pub const TYPES: [u8; 6] = *b"AEXCUR";
 
@@ -58,6 +63,13 @@ pub fn is_trade(t: u8) -> bool
     ensures { λ r. ⌜ r ≡ isTrade t ⌝ }
 {
     (t == b'E') | (t == b'C')
+}
+
+// The replaced token stands on U.
+pub fn is_replace(t: u8) -> bool
+    ensures { λ r. ⌜ r ≡ eqb t 85 ⌝ }
+{
+    t == b'U'
 }
 
 pub fn liquidity(s: &[u8], trade: bool) -> Bytes

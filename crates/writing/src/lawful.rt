@@ -60,7 +60,7 @@ fn account_fields(r: Record) -> Checked
     };
     let event = r.event;
     let replaced = r.replaced;
-    let Bytes::Lawful = rule::replaced(&replaced, event::type_of(event) == b'U') else {
+    let Bytes::Lawful = rule::replaced(&replaced, rule::is_replace(event::type_of(event))) else {
         return Checked::Unlawful(12);
     };
     order_fields(r)

@@ -17,7 +17,7 @@ use refusal::Refusal;
 pub fn write(r: Record, out: &mut [u8]) -> Written
     ensures { λ x. ⌜ Write r (now (out .entry)) x (now (out .exit)) ⌝ }
 {
-    if out.len() < 140 {
+    if out.len() < rule::LINE {
         return Written::Refused(Refusal::NoRoom);
     }
     if let Checked::Unlawful(n) = lawful::check(r) {
@@ -114,5 +114,5 @@ fn trade_fields(r: Record, out: &mut [u8])
     let on = rule::is_trade(event::type_of(event));
     id(out, 120, on, trade.match_id);
     id(out, 129, on, trade.cross_id);
-    put::run(out, 138, b"\r\n");
+    put::run(out, rule::FIELDS, b"\r\n");
 }

@@ -1,5 +1,5 @@
--- `door::skurzelt_write` meets its contract: room first, then the length, then the bytes without meaning with the rules before them, then the line's own
--- writer on the record that the bytes say.
+-- `door::skurzelt_write` meets its contract: room first, then the length, then the bytes without meaning with the rules before them, then crate
+-- `writing` on the record that the bytes say.
 use borrow.Author.Needs.{needs}
 use denote.Ref.{now}
 use Rattle.door.proofs.Writings.{no-room, no-record, odd-byte, written, unwritten}

@@ -1,7 +1,8 @@
 -- `line::piece::account_fields` meets its contract.
 use Prim.Native.Nat.{ℕ}
+use mathlib.Core.Bool.{Bool}
 use mathlib.Core.List.{List}
-use mathlib.Core.Path.{_≡_}
+use mathlib.Core.Path.{_∙_, ap, _≡_}
 use borrow.Author.Needs.{needs}
 use denote.Ref.{now}
 use lib.Dec.{lit<, eqb}
@@ -12,6 +13,7 @@ use Rattle.layout.specs.declared.Numbers.{Numbers}
 use Rattle.line.specs.declared.Reading.{Reading}
 use Rattle.line.specs.Groups.{readingFrom}
 use Rattle.line.proofs.Steps.{past, stops, kind-good, kind-bad}
+use Rattle.rule.specs.ByType.{keptOn}
 use Rattle.rule.proofs.Answers.{kind-on-good, on-bad}
 use Rattle.line.proofs.piece.account_fields.Statement.{statement}
 use Rattle.line.proofs.piece.account_fields.Tie as tie
@@ -76,16 +78,16 @@ past-11 c x e =
     (past 10 (given-11 c) s x (lit< tt) (kind-good text (part s 36 20) _ (c .before .before .text2 .ensures) (c .enum-told9 .given .1)) e)
 
 abbrev piece-12 : tie.After-enum-told11 → List ℕ
-piece-12 c = piece-11 (c .before .before .before .before .before)
+piece-12 c = piece-11 (c .before .before .before .before .before .before)
 
 abbrev given-12 : tie.After-enum-told11 → Numbers
-given-12 c = given-11 (c .before .before .before .before .before)
+given-12 c = given-11 (c .before .before .before .before .before .before)
 
 past-12 : (c : tie.After-enum-told11) (x : Reading) → x ≡ readingFrom 12 (given-12 c) (piece-12 c) → x ≡ readingFrom 6 (given-12 c) (piece-12 c)
 past-12 c x e =
     let s = piece-12 c in
-    past-11 (c .before .before .before .before .before) x
-    (past 11 (given-12 c) s x (lit< tt) (kind-on-good (eqb (getD s 8 0) 85) text (part s 56 20) _ (c .before .before .replaced .ensures) (c .enum-told11 .given .1)) e)
+    past-11 (c .before .before .before .before .before .before) x
+    (past 11 (given-12 c) s x (lit< tt) (kind-on-good (eqb (getD s 8 0) 85) text (part s 56 20) _ (c .before .before .replaced .ensures ∙ ap (λ (t : Bool). keptOn t (kept text) (part s 56 20)) (c .before .before .before .is-replace .ensures)) (c .enum-told11 .given .1)) e)
 
 sub-text-or-blank : tie.Need-sub-text-or-blank
 sub-text-or-blank c = search needs
@@ -231,8 +233,11 @@ part-replaced-start c = search needs
 part-replaced-end : tie.Need-part-replaced-end
 part-replaced-end c = search needs
 
-shared-slice-read-replaced : tie.Need-shared-slice-read-replaced
-shared-slice-read-replaced c = search needs
+shared-slice-read-is-replace : tie.Need-shared-slice-read-is-replace
+shared-slice-read-is-replace c = search needs
+
+is-replace-requires : tie.Need-is-replace-requires
+is-replace-requires c κs = search needs
 
 replaced-requires : tie.Need-replaced-requires
 replaced-requires c κs = search needs
@@ -248,9 +253,9 @@ refused-requires-6 c κs = search needs
 
 returns-6 : tie.Need-returns-6
 returns-6 c =
-    let s = piece-11 (c .before .before .before .before .before .before) in
-    let n = given-11 (c .before .before .before .before .before .before) in
-    past-11 (c .before .before .before .before .before .before) _ (stops 11 n s _ (lit< tt) (on-bad (eqb (getD s 8 0) 85) (kept text) (part s 56 20) _ (c .before .before .before .replaced .ensures) (c .before .enum-told12 .given .1)) (c .refused6 .ensures))
+    let s = piece-11 (c .before .before .before .before .before .before .before) in
+    let n = given-11 (c .before .before .before .before .before .before .before) in
+    past-11 (c .before .before .before .before .before .before .before) _ (stops 11 n s _ (lit< tt) (on-bad (eqb (getD s 8 0) 85) (kept text) (part s 56 20) _ (c .before .before .before .replaced .ensures ∙ ap (λ (t : Bool). keptOn t (kept text) (part s 56 20)) (c .before .before .before .before .is-replace .ensures)) (c .before .enum-told12 .given .1)) (c .refused6 .ensures))
 
 order-fields-requires : tie.Need-order-fields-requires
 order-fields-requires c κs = search needs
@@ -305,7 +310,8 @@ account-fields-spec =
     sub-replaced
     part-replaced-start
     part-replaced-end
-    shared-slice-read-replaced
+    shared-slice-read-is-replace
+    is-replace-requires
     replaced-requires
     enum-told-11
     enum-told-12

@@ -127,6 +127,9 @@ slice-aggregate-replaced c = sym (sized (c .before .before .before .before .befo
 type-of-requires : tie.Need-type-of-requires
 type-of-requires c κs = search needs
 
+is-replace-requires : tie.Need-is-replace-requires
+is-replace-requires c κs = search needs
+
 replaced-requires : tie.Need-replaced-requires
 replaced-requires c κs = search needs
 
@@ -138,13 +141,13 @@ enum-told-12 c = search needs
 
 returns-6 : tie.Need-returns-6
 returns-6 c =
-    let s = c .before .before .before .before .before .before .before .before .before .before .before .before .before .before .before .before .before .before .before .before .before .before .before .before .before .before .before .before .before .before .before in
-    kept-fails 11 (s .args .r) (lit< tt) (c .before .before .replaced3 .ensures ∙ rw (c .before .before .before .type-of .ensures) (replaced-is (s .args .r) (sized s .replaced))) (c .enum-told12 .given .1) ∙ past-11 (c .before .before .before .before .before .before)
+    let s = c .before .before .before .before .before .before .before .before .before .before .before .before .before .before .before .before .before .before .before .before .before .before .before .before .before .before .before .before .before .before .before .before in
+    kept-fails 11 (s .args .r) (lit< tt) (c .before .before .replaced3 .ensures ∙ rw (c .before .before .before .is-replace .ensures, c .before .before .before .before .type-of .ensures) (replaced-is (s .args .r) (sized s .replaced))) (c .enum-told12 .given .1) ∙ past-11 (c .before .before .before .before .before .before .before)
 
-past-12 : (c : tie.After-enum-told11) → Past 6 12 (c .before .before .before .before .before .before .before .before .before .before .before .before .before .before .before .before .before .before .before .before .before .before .before .before .before .before .before .before .before .before .before .args .r)
+past-12 : (c : tie.After-enum-told11) → Past 6 12 (c .before .before .before .before .before .before .before .before .before .before .before .before .before .before .before .before .before .before .before .before .before .before .before .before .before .before .before .before .before .before .before .before .args .r)
 past-12 c =
-    let s = c .before .before .before .before .before .before .before .before .before .before .before .before .before .before .before .before .before .before .before .before .before .before .before .before .before .before .before .before .before .before .before in
-    kept-passes 11 (s .args .r) (lit< tt) (c .before .before .replaced3 .ensures ∙ rw (c .before .before .before .type-of .ensures) (replaced-is (s .args .r) (sized s .replaced))) (c .enum-told11 .given .1) ∙ past-11 (c .before .before .before .before .before .before)
+    let s = c .before .before .before .before .before .before .before .before .before .before .before .before .before .before .before .before .before .before .before .before .before .before .before .before .before .before .before .before .before .before .before .before in
+    kept-passes 11 (s .args .r) (lit< tt) (c .before .before .replaced3 .ensures ∙ rw (c .before .before .before .is-replace .ensures, c .before .before .before .before .type-of .ensures) (replaced-is (s .args .r) (sized s .replaced))) (c .enum-told11 .given .1) ∙ past-11 (c .before .before .before .before .before .before .before)
 
 order-fields-requires : tie.Need-order-fields-requires
 order-fields-requires c κs = search needs
@@ -183,6 +186,7 @@ account-fields-spec =
     returns-5
     slice-aggregate-replaced
     type-of-requires
+    is-replace-requires
     replaced-requires
     enum-told-11
     enum-told-12
