@@ -78,8 +78,8 @@ uint32_t skurzelt_empty_table(uint8_t *table, size_t table_length);
 /* Whether a table is damaged: 0, or 5. */
 uint32_t skurzelt_check_table(const uint8_t *table, size_t table_length);
 
-/* The place, from 0, of the earliest order with a key (Source, then Token). Refuses 5, then 8: no order has the key, nor one of another length than
-   26. */
+/* The place, from 0, of the earliest order with a key (Source, then Token). Refuses 5, then 8: no order has the key. A key of another
+   length than 26 is one that no order has. */
 uint32_t skurzelt_find_order(const uint8_t *table, size_t table_length, const uint8_t *key, size_t key_length, uint64_t *place);
 
 /* Copies the order at a place into the first 80 bytes of order. Refuses 5, 4 (order under 80 bytes), then 8: no order is there. */
