@@ -18,7 +18,7 @@ use refusal::Refusal;
 use slot::Place;
 use table::header;
 
-// The conditions that need no order of the table come first, as 01 has them.
+// 6 and 7 first, as 01 has them. Of an A only 12 is left then; any other line is about an order of the table.
 pub fn plan(t: &[u8], r: Record) -> Plan
     requires { ⌜ sound (now t) ≡ true ⌝ }
     ensures { λ p. ⌜ Plans (now (t .entry)) r p ⌝ }

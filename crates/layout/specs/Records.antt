@@ -21,7 +21,7 @@ typeOf (Broken t) = 67
 typeOf Replaced = 85
 typeOf Repriced = 82
 
--- of one of the six types; any other byte gives R, and who asks for a record has refused it (field 2)
+-- of one of the six types; any other byte gives R. Such a record is no answer: reading refuses it (field 2), and the door asks only for a field before it
 abbrev pub eventOf : ℕ → Trade → Event
 eventOf t trade =
     cond (eqb t 65) Accepted

@@ -47,7 +47,7 @@ pub struct Record {
     pub price: u64,
 }
 
-// The numbers of a line, as far as its fields were read; the rest is 0.
+// The numbers of a line, as far as its fields were read, the rest 0; or those of the bytes that a host gives.
 pub struct Numbers {
     pub timestamp: u64,
     pub contracts: u64,

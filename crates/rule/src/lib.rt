@@ -1,4 +1,4 @@
-// The table of 01, The line, as code has it: its code lists and bounds, once each, and the fields whose rule goes by the type or the denominator.
+// The table of 01, The line, as code has it: the length of a line, its code lists and bounds, once each, and the fields whose rule goes by the type or the denominator.
 ghost use Prim.Native.Nat.{_≤_};
 ghost use mathlib.Core.Bool.{_&&_};
 ghost use mathlib.Core.Path.{_≡_};

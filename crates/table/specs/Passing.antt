@@ -11,7 +11,7 @@ use Rattle.slot.specs.Slots.{orderIn}
 use Rattle.slot.specs.Places.{slot}
 use Rattle.table.specs.Tables.{tailZero}
 
--- how many orders have a flag
+-- how many numbers have a flag, from 0 on
 abbrev pub roomIn : List ℕ → ℕ
 roomIn flags = length flags
 

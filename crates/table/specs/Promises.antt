@@ -10,7 +10,7 @@ use Rattle.table.specs.declared.Found.the-variants.{At as FoundAt, Refus
 use Rattle.table.specs.declared.Made.{Made}
 use Rattle.table.specs.declared.Made.the-variants.{Done, Refused}
 
--- the answer of making an empty table in the paper's terms
+-- the answer of what is made in a lent buffer, an empty table or a copy of an order, in the paper's terms
 abbrev pub madeOf : Made → Answer (Unit {0})
 madeOf Done = value tt
 madeOf (Refused r) = refusedBy r
