@@ -8,7 +8,8 @@
    use skurzelt_refusal() and skurzelt_field(). A refused call has changed no lent byte and no lent number. Any bytes may be lent, of any length:
    a call always answers.
 
-   Stack. skurzelt_sheet goes a level deeper for each order that it lists: about 300 bytes of stack each, 152 KiB for a full table (measured).
+   Stack. skurzelt_sheet goes a level deeper for each order that it lists: about 300 bytes of stack each, at most
+   152 KiB for a full table (measured in the sheet program, docs/LIMITS.md).
 
    The layouts of a table, of an order in it and of a record are in docs/LAYOUT.md. */
 
