@@ -7,10 +7,10 @@ use mathlib.Core.List.{List, _++_, append-assoc}
 use lib.ListN.{length, getD, drop, length-append}
 use lib.Seq.{take-at, drop-at, drop-drop}
 use Rattle.layout.specs.Demand2.{holds, LawfulRecord}
-use Rattle.layout.specs.Layout.{Row, row, layout, part, writeRows}
+use Rattle.layout.specs.Layout.{Row, noRow, layout, part, writeRows}
 use Rattle.layout.specs.Line.{crlf, rowsFor, lineOf, unlawful}
 use Rattle.layout.specs.Records.{typeOf, fieldsOf}
-use Rattle.layout.specs.Rule.{Value, num, kept, blank, writes}
+use Rattle.layout.specs.Rule.{Value, num, writes}
 use Rattle.layout.specs.declared.Event.{Event}
 use Rattle.layout.specs.declared.Event.the-variants.{Accepted, Executed, Cancelled, Broken, Replaced, Repriced}
 use Rattle.layout.specs.declared.Record.{Record}
@@ -19,7 +19,7 @@ use Rattle.layout.proofs.Rows.{tiles, Lawful, none, more, first-lawful, lawful-
 use Rattle.layout.proofs.Rules.{writes-reads}
 
 abbrev pub rowOf : List Row → ℕ → Row
-rowOf rows k = getD rows k (row 0 0 0 (kept blank))
+rowOf rows k = getD rows k noRow
 
 row-bytes : {at : ℕ} {rows : List Row} {vs : List Value} → Lawful at rows vs → (s after : List ℕ) → drop at s ≡ writeRows rows vs ++ after
     → (k : ℕ) → k < length rows

@@ -6,15 +6,15 @@ use mathlib.Core.List.{List}
 use mathlib.Core.Logic.{_⊎_, _↔_}
 use lib.ListN.{length, getD}
 use Rattle.refusal.specs.Answer.{Answer, value, refused}
-use Rattle.layout.specs.Layout.{Row, row, part}
+use Rattle.layout.specs.Layout.{Row, noRow, part}
 use Rattle.layout.specs.Line.{Said, line, endOfDay, crlf, isLine, printable, rowsOf, rowsFor}
 use Rattle.layout.specs.Records.{fieldsOf}
-use Rattle.layout.specs.Rule.{num, Got, got, broken, kept, blank, reads, lawful}
+use Rattle.layout.specs.Rule.{num, Got, got, broken, reads, lawful}
 use Rattle.layout.specs.declared.Record.{Record}
 
 -- the row of field n, counted from 1
 abbrev pub rowAt : List Row → ℕ → Row
-rowAt rows n = getD rows (n - 1) (row 0 0 0 (kept blank))
+rowAt rows n = getD rows (n - 1) noRow
 
 abbrev pub isGot : Got → Bool
 isGot (got v) = true

@@ -1,19 +1,26 @@
 -- 01, The line: the table of the 24 fields, and how a line is read and written by it.
 use Prim.Native.Nat.{ℕ, _+_}
+use Prim.Native.String.{String}
 use mathlib.Core.Bool.{Bool, true, cond, _&&_, _||_}
 use mathlib.Core.List.{List, [], _∷_, _++_}
 use lib.Dec.{eqb}
 use lib.ListN.{take, drop}
 use Rattle.layout.specs.Rule.{Rule, number, digits, price, code, kept, text, textOrBlank, blank, digitsOrBlank, hex, Value, Got, got, broken, reads, writes, lawful, fits}
 
+-- 01, The line: the columns No, Field, At, Len and Rule
 pub record Row : Type 0 where
   pub no : ℕ
+  pub name : String
   pub at : ℕ
   pub len : ℕ
   pub rule : Rule
 
-abbrev pub row : ℕ → ℕ → ℕ → Rule → Row
-row n at len rule = record { no = n; at = at; len = len; rule = rule }
+abbrev pub row : ℕ → String → ℕ → ℕ → Rule → Row
+row n name at len rule = record { no = n; name = name; at = at; len = len; rule = rule }
+
+-- where a list of rows has none
+abbrev pub noRow : Row
+noRow = row 0 "none" 0 0 (kept blank)
 
 -- A E X C U R
 abbrev pub types : List ℕ
@@ -74,30 +81,30 @@ tradeId t = onTrade t idNumber (kept blank)
 -- 01, The line: the table, for a type t and a denominator d
 abbrev pub layout : ℕ → ℕ → List Row
 layout t d =
-    row 1 0 8 timestamp
-    ∷ row 2 8 1 (code types)
-    ∷ row 3 9 4 (kept text)
-    ∷ row 4 13 1 (code capacities)
-    ∷ row 5 14 1 (code positions)
-    ∷ row 6 15 1 (onTrade t (code liquidities) (kept blank))
-    ∷ row 7 16 4 (kept textOrBlank)
-    ∷ row 8 20 5 (kept digitsOrBlank)
-    ∷ row 9 25 5 (kept digitsOrBlank)
-    ∷ row 10 30 6 (kept text)
-    ∷ row 11 36 20 (kept text)
-    ∷ row 12 56 20 (onReplace t (kept text) (kept blank))
-    ∷ row 13 76 9 (kept hex)
-    ∷ row 14 85 1 (code sides)
-    ∷ row 15 86 6 (number 1 999999)
-    ∷ row 16 92 6 (kept text)
-    ∷ row 17 98 1 (code months)
-    ∷ row 18 99 2 (digits 1 31)
-    ∷ row 19 101 2 (digits 0 99)
-    ∷ row 20 103 1 (code denominators)
-    ∷ row 21 104 6 (strikeUnder d)
-    ∷ row 22 110 10 price
-    ∷ row 23 120 9 (tradeId t)
-    ∷ row 24 129 9 (tradeId t)
+    row 1 "Timestamp" 0 8 timestamp
+    ∷ row 2 "Type" 8 1 (code types)
+    ∷ row 3 "Firm" 9 4 (kept text)
+    ∷ row 4 "Capacity" 13 1 (code capacities)
+    ∷ row 5 "Open/Close" 14 1 (code positions)
+    ∷ row 6 "Liquidity" 15 1 (onTrade t (code liquidities) (kept blank))
+    ∷ row 7 "Clearing Account" 16 4 (kept textOrBlank)
+    ∷ row 8 "Clearing Member" 20 5 (kept digitsOrBlank)
+    ∷ row 9 "Clearing Firm" 25 5 (kept digitsOrBlank)
+    ∷ row 10 "Source" 30 6 (kept text)
+    ∷ row 11 "Token" 36 20 (kept text)
+    ∷ row 12 "Replaced Token" 56 20 (onReplace t (kept text) (kept blank))
+    ∷ row 13 "Reference" 76 9 (kept hex)
+    ∷ row 14 "Side" 85 1 (code sides)
+    ∷ row 15 "Contracts" 86 6 (number 1 999999)
+    ∷ row 16 "Root" 92 6 (kept text)
+    ∷ row 17 "Month" 98 1 (code months)
+    ∷ row 18 "Date" 99 2 (digits 1 31)
+    ∷ row 19 "Year" 101 2 (digits 0 99)
+    ∷ row 20 "Denominator" 103 1 (code denominators)
+    ∷ row 21 "Strike" 104 6 (strikeUnder d)
+    ∷ row 22 "Price" 110 10 price
+    ∷ row 23 "Match Id" 120 9 (tradeId t)
+    ∷ row 24 "Cross Id" 129 9 (tradeId t)
     ∷ []
 
 -- the bytes of a field
@@ -141,7 +148,7 @@ fitting (r ∷ rs) = fits (r .rule) (r .len) && fitting rs
 
 -- the field of that number
 abbrev pub fieldNo : ℕ → List Row → Row
-fieldNo n [] = row 0 0 0 (kept blank)
+fieldNo n [] = noRow
 fieldNo n (r ∷ rs) = cond (eqb (r .no) n) r (fieldNo n rs)
 
 -- a value keeps the rule of its field. Of a field whose rule goes by no other one: any type and any denominator will do

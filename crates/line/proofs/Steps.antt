@@ -13,16 +13,16 @@ use Rattle.field.specs.declared.Bytes.the-variants.{Lawful, Unlawful}
 use Rattle.field.specs.declared.Number.{Number}
 use Rattle.field.specs.declared.Number.the-variants.{Value as Number·Value, Bad}
 use Rattle.refusal.specs.declared.Refusal.the-variants.{Field}
-use Rattle.layout.specs.Layout.{Row, row, part, breaks, readRows, onGot}
+use Rattle.layout.specs.Layout.{Row, noRow, part, breaks, readRows, onGot}
 use Rattle.layout.specs.Line.{rowsOf}
-use Rattle.layout.specs.Rule.{code, kept, blank, Kind, isKind, Value, num, run, Got, got, broken, reads, gotNumber, gotRun}
+use Rattle.layout.specs.Rule.{code, kept, Kind, isKind, Value, num, run, Got, got, broken, reads, gotNumber, gotRun}
 use Rattle.line.specs.Groups.{valuesOf, readingOf, readingFrom, refusedReading}
 use Rattle.layout.specs.declared.Numbers.{Numbers}
 use Rattle.line.specs.declared.Reading.{Reading}
 
 -- the row, counted from 0, and its value
 abbrev pub rowNo : List ℕ → ℕ → Row
-rowNo s k = getD (rowsOf s) k (row 0 0 0 (kept blank))
+rowNo s k = getD (rowsOf s) k noRow
 
 abbrev pub valueNo : Numbers → List ℕ → ℕ → Value
 valueNo n s k = getD (valuesOf n s) k (num 0)
@@ -40,7 +40,7 @@ pub past : (k : ℕ) (n : Numbers) (s : List ℕ) (x : Reading) → k < 24
     → x ≡ readingFrom (suc k) n s → x ≡ readingFrom k n s
 past k n s x h e g =
     g
-    ∙ rw (take-suc (valuesOf n s) k (num 0) h, drop-cons (rowsOf s) k (row 0 0 0 (kept blank)) h)
+    ∙ rw (take-suc (valuesOf n s) k (num 0) h, drop-cons (rowsOf s) k noRow h)
     (ap readingOf (sym (step (rowNo s k) (drop (suc k) (rowsOf s)) (take k (valuesOf n s)) s (valueNo n s k) e)))
 
 -- the first that breaks it is named
@@ -49,7 +49,7 @@ pub stops : (k : ℕ) (n : Numbers) (s : List ℕ) (x : Reading) → k < 24
     → x ≡ refusedReading (Field (rowNo s k .no)) → x ≡ readingFrom k n s
 stops k n s x h e g =
     g
-    ∙ rw (drop-cons (rowsOf s) k (row 0 0 0 (kept blank)) h)
+    ∙ rw (drop-cons (rowsOf s) k noRow h)
     (ap readingOf (sym (stop (rowNo s k) (drop (suc k) (rowsOf s)) (take k (valuesOf n s)) s e)))
 
 run-good : (a : Bool) (b : List ℕ) → keptAnswer a ≡ Lawful → gotRun a b ≡ got (run b)

@@ -12,7 +12,7 @@ use Rattle.field.specs.Kept.{kept as keptAnswer}
 use Rattle.field.specs.declared.Bytes.{Bytes}
 use Rattle.field.specs.declared.Bytes.the-variants.{Lawful, Unlawful}
 use Rattle.field.proofs.Returns.{lawful-true, unlawful-false}
-use Rattle.layout.specs.Layout.{row, liquidities, isTrade, firstUnlawful}
+use Rattle.layout.specs.Layout.{noRow, liquidities, isTrade, firstUnlawful}
 use Rattle.layout.specs.Line.{rowsFor}
 use Rattle.layout.specs.Records.{fieldsOf, typeOf, tradeOf, one}
 use Rattle.layout.specs.Rule.{code, kept, text, blank, Kind, isKind, num, run, lawful}
@@ -30,7 +30,7 @@ Past from to r = checkFrom to r ≡ checkFrom from r
 -- a lawful field leaves the answer to those behind it, an unlawful one is named
 pub judged : (k : ℕ) (r : Record) {t : Bool} → k < 24 → lawfulAt r k ≡ t
     → checkOf (cond t (firstUnlawful (drop (suc k) (rowsFor r)) (drop (suc k) (fieldsOf r))) (rowFor r k .no)) ≡ checkFrom k r
-judged k r h e = rw (drop-cons (rowsFor r) k (row 0 0 0 (kept blank)) h, drop-cons (fieldsOf r) k (num 0) h, e)
+judged k r h e = rw (drop-cons (rowsFor r) k noRow h, drop-cons (fieldsOf r) k (num 0) h, e)
 
 -- by a test of the field
 module _ (k : ℕ) (r : Record) {b : Bool} (h : k < 24) (e : b ≡ lawfulAt r k) where

@@ -4,14 +4,14 @@ use mathlib.Core.Path.{_≡_}
 use mathlib.Core.Bool.{Bool}
 use mathlib.Core.List.{List}
 use lib.ListN.{length, getD}
-use Rattle.layout.specs.Layout.{Row, row}
+use Rattle.layout.specs.Layout.{Row, noRow}
 use Rattle.layout.specs.Line.{rowsFor}
 use Rattle.layout.specs.Records.{fieldsOf}
-use Rattle.layout.specs.Rule.{kept, blank, Value, num, lawful, writes}
+use Rattle.layout.specs.Rule.{Value, num, lawful, writes}
 use Rattle.layout.specs.declared.Record.{Record}
 
 abbrev pub rowFor : Record → ℕ → Row
-rowFor r k = getD (rowsFor r) k (row 0 0 0 (kept blank))
+rowFor r k = getD (rowsFor r) k noRow
 
 abbrev pub valueFor : Record → ℕ → Value
 valueFor r k = getD (fieldsOf r) k (num 0)

@@ -5,10 +5,10 @@ use mathlib.Core.List.{List, _++_, append-assoc}
 use lib.ListN.{length, drop}
 use lib.Seq.{sets, drop-cons}
 use Rattle.field.proofs.Stores.{sets-append}
-use Rattle.layout.specs.Layout.{row, writeRows}
+use Rattle.layout.specs.Layout.{noRow, writeRows}
 use Rattle.layout.specs.Line.{crlf, rowsFor}
 use Rattle.layout.specs.Records.{fieldsOf}
-use Rattle.layout.specs.Rule.{kept, blank, num}
+use Rattle.layout.specs.Rule.{num}
 use Rattle.layout.specs.declared.Record.{Record}
 use Rattle.writing.specs.Writes.{lineFrom}
 use Rattle.writing.proofs.Fields.{rowFor, textFor}
@@ -16,7 +16,7 @@ use Rattle.writing.proofs.Fields.{rowFor, textFor}
 line-next : (k : ℕ) (r : Record) → k < 24 → lineFrom k r ≡ textFor r k ++ lineFrom (suc k) r
 unfolding lineFrom
 line-next k r h =
-    rw (drop-cons (rowsFor r) k (row 0 0 0 (kept blank)) h, drop-cons (fieldsOf r) k (num 0) h)
+    rw (drop-cons (rowsFor r) k noRow h, drop-cons (fieldsOf r) k (num 0) h)
     (append-assoc (textFor r k) (writeRows (drop (suc k) (rowsFor r)) (drop (suc k) (fieldsOf r))) crlf)
 
 -- a field's bytes are stored, and behind them the rest of the line
