@@ -1,8 +1,8 @@
--- The twelve examples of specs/Examples.antt: each computes.
+-- The twelve examples of specs/Examples.antt and its whole lines: each computes.
 use mathlib.Core.Path.{refl}
 use Rattle.layout.specs.Clocks.{clock}
-use Rattle.layout.specs.Examples.{Bounds}
-use Rattle.layout.specs.Line.{read}
+use Rattle.layout.specs.Examples.{Bounds, Whole}
+use Rattle.layout.specs.Line.{read, lineOf}
 use Rattle.layout.specs.Strikes.{strikeValue, strikeForm}
 
 pub bounds : Bounds
@@ -22,3 +22,7 @@ bounds =
       no-form = refl;
       price-reads = (_, refl, refl);
     }
+
+pub whole : Whole
+unfolding read lineOf
+whole = record { execution-reads = refl; execution-written = refl; replacement-reads = refl; replacement-written = refl }

@@ -7,3 +7,4 @@ pub mod Line
 pub mod Records
 pub mod Rule
 pub mod Strikes
+pub mod Text
