@@ -24,7 +24,7 @@ use Rattle.layout.specs.declared.Event.{Event}
 use Rattle.layout.specs.declared.Event.the-variants.{Accepted, Executed, Cancelled, Broken, Replaced, Repriced}
 use Rattle.layout.specs.declared.Record.{Record}
 use Rattle.layout.specs.declared.Trade.{Trade}
-use Rattle.layout.proofs.Demand2.{demand2}
+use Rattle.layout.proofs.Answers.{read-back}
 use Rattle.layout.proofs.Rules.{both}
 use Rattle.writing.proofs.Events.{type-lawful}
 use Rattle.door.specs.Images.{imageOf, oddId, recordIn, unmeant, unwritable}
@@ -212,7 +212,7 @@ module _ (r : Record) (h : LawfulRecord r) where
   lawful-writable = sym (rule-in-the-way image image-length lawful-meant) ∙ rw lawful-said (all-lawful r h)
 
 pub back : (p : List ℕ) (r : Record) → read p ≡ value (line r) → (unwritable (imageOf r) ≡ 0) × (recordIn (imageOf r) ≡ r)
-back p r e = let h = demand2 .read-back p r e .0 in (lawful-writable r h, lawful-said r h)
+back p r e = let h = read-back p r e .0 in (lawful-writable r h, lawful-said r h)
 
 -- the bytes of the record of a piece are written as that piece, whatever stood in the lent line
 pub piece-back : (p : List ℕ) (r : Record) → read p ≡ value (line r) → (before : List ℕ) → 140 ≤ length before
@@ -220,4 +220,4 @@ pub piece-back : (p : List ℕ) (r : Record) → read p ≡ value (line r) → (
 piece-back p r e before room k after x =
     let b = back p r e in
     let answered : writeAnswer (imageOf r) before ≡ value tt = rw (le-ltb (length before) 140 room, b .0) in
-    (x .said ∙ rw answered, x .out ∙ rw (answered, b .1, demand2 .read-back p r e .1))
+    (x .said ∙ rw answered, x .out ∙ rw (answered, b .1, read-back p r e .1))

@@ -20,6 +20,7 @@ use Rattle.layout.specs.Line.{Said, endOfDay, line, read, lineOf, rowsFor}
 use Rattle.layout.specs.Records.{typeOf, eventOf, noTrade, tradeOf}
 use Rattle.layout.specs.declared.Record.{Record}
 use Rattle.layout.specs.declared.Trade.{Trade}
+use Rattle.layout.proofs.Answers.{written-reads}
 use Rattle.layout.proofs.Demand2.{demand2}
 use Rattle.layout.proofs.Rows.{width}
 use Rattle.layout.proofs.Rules.{both, either, neither}
@@ -233,7 +234,7 @@ round-trip =
           let goes : writeAnswer b before ≡ value tt = rw (le-ltb (length before) 140 (free .0), free .1) in
           let left : after ≡ lineOf r ++ drop 140 before = w .out ∙ rw goes in
           let piece : take 140 after ≡ lineOf r = ap (take 140) left ∙ take-at (lineOf r) (drop 140 before) 140 (line-length r law) in
-          let says : readAnswer (take 140 after) room ≡ value (line r) = rw (le-ltb (length room) 138 h, piece) (demand2 .written-reads r law) in
+          let says : readAnswer (take 140 after) room ≡ value (line r) = rw (le-ltb (length room) 138 h, piece) (written-reads r law) in
           let stored = rw n at (sets-start room b (omega arith)) in
           (x .said ∙ rw says, x .told ∙ rw says, x .out ∙ rw (says, image-said b bytes (free .1)) stored);
     }

@@ -14,6 +14,7 @@ use Rattle.layout.specs.Line.{line, read, crlf, same}
 use Rattle.layout.specs.Records.{tradeOf}
 use Rattle.layout.specs.declared.Record.{Record}
 use Rattle.layout.specs.declared.Trade.{Trade}
+use Rattle.layout.proofs.Answers.{read-back}
 use Rattle.layout.proofs.Demand2.{demand2}
 use Rattle.layout.proofs.Rules.{both}
 use Rattle.door.specs.Images.{idsSet, earlySet, lateSet, imageOf}
@@ -49,4 +50,4 @@ image-stored p b r c d e f t says room first early late trade ids =
     ∙ ap₂ idsSet trade (late ∙ ap (lateSet r) (early ∙ ap (earlySet r) first))
     ∙ numbers-are-cells r (sets b 0 (take 138 p))
     ∙ cells-inside (cells r) b (take 138 p) (rw wide room) fits
-    ∙ rw (numbers-are-cells, demand2 .read-back p r says .1)
+    ∙ rw (numbers-are-cells, read-back p r says .1)

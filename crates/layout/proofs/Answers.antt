@@ -1,23 +1,24 @@
 -- What reading and writing answer, case by case; and what an answer says of the piece or the record.
-use Prim.Native.Nat.{ℕ, _≤_, _<_}
+use Prim.Native.Nat.{ℕ, _-_, _≤_, _<_}
 use native.Mathlib.Omega.{arith}
 use mathlib.Core.Path.{_≡_, refl, sym, ap, subst, _∙_}
 use mathlib.Core.Logic.{_⊎_, inl, inr}
 use mathlib.Core.Bool.{Bool, true, false, cond, false≢true}
-use mathlib.Core.List.{List, []}
+use mathlib.Core.List.{List, [], _++_}
 use borrow.Author.Tests.{lt-ltb, le-ltb, ltb-true, ltb-false}
 use lib.Dec.{eqb, ltb}
-use lib.ListN.{length}
+use lib.ListN.{length, take, drop}
+use lib.Seq.{take-at}
 use Rattle.refusal.specs.Answer.{Answer, value, refused}
-use Rattle.layout.specs.Demand2.{keeps, holds, LawfulLine, LawfulRecord, First}
+use Rattle.layout.specs.Demand2.{fieldIn, keeps, fieldOf, holds, LawfulLine, LawfulRecord, First}
 use Rattle.layout.specs.Layout.{say, breaks}
-use Rattle.layout.specs.Line.{Said, endOfDay, line, crlf, same, isLine, printable, rowsOf, saidBy, read, lineOf, unlawful, write}
+use Rattle.layout.specs.Line.{Said, endOfDay, line, crlf, same, isLine, printable, rowsOf, saidBy, read, lineOf, unlawful, write, outAfter, writeInto}
 use Rattle.layout.specs.Records.{recordOf}
-use Rattle.layout.specs.Rule.{Value}
+use Rattle.layout.specs.Rule.{Value, got}
 use Rattle.layout.specs.declared.Record.{Record}
 use Rattle.layout.proofs.First.{firstOf, judged, Says, judged-says, every-judged}
-use Rattle.layout.proofs.Lines.{tiles-of, same-true, other-than, line-other, recordIn, line-record, record-line}
-use Rattle.layout.proofs.Rows.{told, firstBroken, read-rows}
+use Rattle.layout.proofs.Lines.{tiles-of, same-true, line-length, other-than, line-other, recordIn, line-fields, line-record, record-line}
+use Rattle.layout.proofs.Rows.{valueOf, told, told-at, firstBroken, read-rows, kept-got}
 
 -- ---- reading, case by case
 
@@ -83,6 +84,13 @@ read-says s e = subst (ReadSays s) e (go (same s crlf) (isLine s) (printable s) 
         let a = judged (firstOf (keeps s) 1 24) (line (recordIn s)) in
         subst (ReadSays s) (sym (fields-read s y z)) (judged-read s y z a (judged-says (keeps s) (line (recordIn s))))
 
+-- each field of the record is what its rule reads in its bytes
+pub field-said : (s : List ℕ) (r : Record) → read s ≡ value (line r) → (n : ℕ) → 1 ≤ n → n ≤ 24 → fieldIn s n ≡ got (fieldOf r n)
+field-said s r e n a b =
+    let h = read-says s e in
+    let said : fieldOf (recordIn s) n ≡ valueOf (fieldIn s n) = rw (line-fields s (h .0)) (told-at (rowsOf s) s (n - 1) (omega arith)) in
+    kept-got (fieldIn s n) (h .0 .fields n a b) ∙ ap got (sym said ∙ ap (λ (q : Record). fieldOf q n) (h .1))
+
 pub read-back : (s : List ℕ) (r : Record) → read s ≡ value (line r) → LawfulRecord r × (lineOf r ≡ s)
 read-back s r e =
     let h = read-says s e in
@@ -101,6 +109,23 @@ no-room-write r out h = rw (lt-ltb (length out) 140 h)
 pub fields-write : (r : Record) (out : List ℕ) → 140 ≤ length out → write r out ≡ judged (firstOf (holds r) 1 24) tt
 unfolding unlawful
 fields-write r out h = rw (le-ltb (length out) 140 h)
+
+-- a lawful record with room: its line, and behind it what stood there
+pub lawful-write : (r : Record) (out : List ℕ) → LawfulRecord r → 140 ≤ length out → writeInto r out ≡ (value tt, lineOf r ++ drop 140 out)
+lawful-write r out h room =
+    ap (λ (a : Answer (Unit {0})). (a, outAfter a r out)) (fields-write r out room ∙ every-judged (holds r) tt (h .fields))
+
+pub length-line : (r : Record) → LawfulRecord r → length (lineOf r) ≡ 140
+length-line r h = line-length (lineOf r) (record-line r (lineOf r) h refl .0 .shape)
+
+-- two lawful records that leave one and the same buffer are one
+pub one-written : (r q : Record) (out : List ℕ) → LawfulRecord r → LawfulRecord q → 140 ≤ length out → writeInto r out ≡ writeInto q out → r ≡ q
+one-written r q out h k room e =
+    let same : lineOf r ++ drop 140 out ≡ lineOf q ++ drop 140 out =
+    ap (λ (x : Answer (Unit {0}) × List ℕ). x .1) (sym (lawful-write r out h room) ∙ e ∙ lawful-write q out k room) in
+    let lines : lineOf r ≡ lineOf q =
+    sym (take-at (lineOf r) (drop 140 out) 140 (length-line r h)) ∙ ap (take 140) same ∙ take-at (lineOf q) (drop 140 out) 140 (length-line q k) in
+    cc (written-reads r h, written-reads q k)
 
 -- ---- writing, by its answer
 

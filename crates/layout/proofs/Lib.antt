@@ -7,4 +7,5 @@ pub mod Lines
 pub mod Refuted
 pub mod Rows
 pub mod Rules
+pub mod Settled
 pub mod Values

@@ -21,7 +21,7 @@ use Rattle.layout.specs.declared.Record.{Record}
 use Rattle.layout.proofs.First.{first-every, every-first}
 use Rattle.layout.proofs.Rules.{both}
 use Rattle.layout.proofs.Rows.{tiles, tiles-from, readsAt, valueOf, told, firstBroken}
-use Rattle.layout.proofs.Rows.{lawful-first, first-lawful, told-lawful, lawful-width, lawful-printable, lawful-told}
+use Rattle.layout.proofs.Rows.{Lawful, lawful-first, first-lawful, told-lawful, lawful-width, lawful-printable, lawful-told}
 use Rattle.layout.proofs.Values.{record-fields, fields-record}
 
 -- ---- the table: on its rows, 1 to 24, `firstBroken` and `firstUnlawful` compute to `firstOf` of the tests `keeps` and `holds`
@@ -86,7 +86,7 @@ same-true (a ∷ s) (b ∷ t) e =
     let h = both (eqb a b) (same s t) e in
     ap₂ {B = List ℕ} {C = List ℕ} _∷_ (eqb-true a b (h .0)) (same-true s t (h .1))
 
-line-length : (s : List ℕ) → isLine s ≡ true → length s ≡ 140
+pub line-length : (s : List ℕ) → isLine s ≡ true → length s ≡ 140
 line-length s l = eqb-true (length s) 140 (both (eqb (length s) 140) (same (drop 138 s) crlf) l .0)
 
 line-end : (s : List ℕ) → isLine s ≡ true → drop 138 s ≡ crlf
@@ -116,15 +116,24 @@ recordIn s = recordOf (told (rowsOf s) s)
 pub tiles-of : (s : List ℕ) → tiles 1 0 (rowsOf s) ≡ true
 tiles-of s = tiles-layout (getD s 8 0) (getD s 103 0)
 
+-- what the fields of a lawful line say: lawful values, which write to its bytes
+line-told : (s : List ℕ) → LawfulLine s → Lawful 0 (rowsOf s) (told (rowsOf s) s) × (writeRows (rowsOf s) (told (rowsOf s) s) ++ drop 138 s ≡ s)
+line-told s h =
+    let long : 138 ≤ length s = omega (arith, line-length s (h .shape)) in
+    told-lawful (rowsOf s) s 1 0 (omega arith) (tiles-of s) (every-first (keeps s) (h .fields)) long
+
+-- the record holds what they say
+pub line-fields : (s : List ℕ) → LawfulLine s → fieldsOf (recordIn s) ≡ told (rowsOf s) s
+line-fields s h =
+    let own = own-codes (getD s 8 0) (getD s 103 0) s (every-first (keeps s) (h .fields)) in
+    fields-record (getD s 8 0) (getD s 103 0) (told (rowsOf s) s) (own .2) (own .0) (line-told s h .0)
+
 pub line-record : (s : List ℕ) → LawfulLine s → LawfulRecord (recordIn s) × (lineOf (recordIn s) ≡ s)
 unfolding lineOf
 line-record s h =
-    let vs = told (rowsOf s) s in
     let keeping = every-first (keeps s) (h .fields) in
-    let own = own-codes (getD s 8 0) (getD s 103 0) s keeping in
-    let long : 138 ≤ length s = omega (arith, line-length s (h .shape)) in
-    let law = told-lawful (rowsOf s) s 1 0 (omega arith) (tiles-of s) keeping long in
-    let back : fieldsOf (recordIn s) ≡ vs = fields-record (getD s 8 0) (getD s 103 0) vs (own .2) (own .0) (law .0) in
+    let law = line-told s h in
+    let back = line-fields s h in
     let rows : rowsOf s ≡ rowsFor (recordIn s) = own-layout (getD s 8 0) (getD s 103 0) s (fieldsOf (recordIn s)) keeping (sym back) in
     let holding = subst₂ (λ (rs : List Row) (us : List Value). firstUnlawful rs us ≡ 0) rows (sym back) (lawful-first (law .0)) in
     let bytes = subst₂ (λ (rs : List Row) (us : List Value). writeRows rs us ++ crlf ≡ s) rows (sym back) (rw (line-end s (h .shape)) at (law .1)) in

@@ -1,5 +1,5 @@
 -- Rows one behind another, of any number: what they say of a piece, and what lawful values write.
-use Prim.Native.Nat.{ℕ, _+_, _≤_, _<_}
+use Prim.Native.Nat.{ℕ, zero, suc, _+_, _≤_, _<_}
 use native.Mathlib.Nat.{add-zero, add-assoc}
 use native.Mathlib.Omega.{arith}
 use mathlib.Core.Path.{_≡_, refl, ap, ap₂, _∙_}
@@ -7,12 +7,12 @@ use mathlib.Core.Bool.{Bool, true, false, cond, _&&_, false≢true}
 use mathlib.Core.List.{List, [], _∷_, _++_, append-nil, append-assoc}
 use borrow.Author.Tests.{eqb-true, ne-eqb}
 use lib.Dec.{eqb}
-use lib.ListN.{length, drop, length-append, length-drop, take-append-drop}
+use lib.ListN.{length, getD, drop, length-append, length-drop, take-append-drop}
 use lib.Seq.{take-at, drop-at, drop-drop, append-snoc, length-take-le}
 use Rattle.field.specs.Byte.{isOf, all}
 use Rattle.field.specs.declared.Class.the-variants.{Printable}
 use Rattle.layout.specs.Demand2.{isGot}
-use Rattle.layout.specs.Layout.{Row, part, breaks, say, onGot, readRows, firstUnlawful, writeRows, placed, fitting}
+use Rattle.layout.specs.Layout.{Row, noRow, part, breaks, say, onGot, readRows, firstUnlawful, writeRows, placed, fitting}
 use Rattle.layout.specs.Rule.{Value, num, Got, got, broken, reads, lawful, writes, fits}
 use Rattle.layout.proofs.Rules.{both, reads-writes, writes-reads, writes-printable, all-append}
 
@@ -67,6 +67,12 @@ abbrev pub told : List Row → List ℕ → List Value
 told [] s = []
 told (r ∷ rs) s = valueOf (readsAt s r) ∷ told rs s
 
+-- what row i says stands at i
+pub told-at : (rows : List Row) (s : List ℕ) (i : ℕ) → i < length rows → getD (told rows s) i (num 0) ≡ valueOf (readsAt s (getD rows i noRow))
+told-at [] s i h = absurd (omega arith)
+told-at (r ∷ rs) s zero h = refl
+told-at (r ∷ rs) s (suc i) h = told-at rs s i (omega arith)
+
 -- the first row whose rule the piece breaks, or 0
 abbrev pub firstBroken : List Row → List ℕ → ℕ
 firstBroken [] s = 0
@@ -109,7 +115,7 @@ first-lawful (r ∷ rs) (v ∷ vs) n at p t l e =
     let h = none-failed (lawful (r .rule) (r .len) v) (firstUnlawful rs vs) (r .no) (omega arith) e in
     more (c .placed) (c .room) (h .0) (first-lawful rs vs (n + 1) (at + r .len) (omega arith) (c .next) (omega arith) (h .1))
 
-kept-got : (g : Got) → isGot g ≡ true → g ≡ got (valueOf g)
+pub kept-got : (g : Got) → isGot g ≡ true → g ≡ got (valueOf g)
 kept-got (got v) e = refl
 kept-got broken e = absurd (false≢true e)
 

@@ -6,5 +6,7 @@ pub mod Layout
 pub mod Line
 pub mod Records
 pub mod Rule
+pub mod Settled
 pub mod Strikes
 pub mod Text
+pub mod Wrong

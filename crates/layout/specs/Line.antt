@@ -68,3 +68,7 @@ write r out = cond (ltb (length out) 140) (refused 4 0) (cond (eqb (unlawful r) 
 abbrev pub outAfter : Answer (Unit {0}) → Record → List ℕ → List ℕ
 outAfter (value u) r out = lineOf r ++ drop 140 out
 outAfter (refused n f) r out = out
+
+-- the answer, and the buffer afterwards
+abbrev pub writeInto : Record → List ℕ → Answer (Unit {0}) × List ℕ
+writeInto r out = (write r out, outAfter (write r out) r out)
