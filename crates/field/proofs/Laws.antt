@@ -87,6 +87,10 @@ spaced-then (b ∷ s) t n p e = go (eqb b 32) (eqb b 48) (spaced-then s t n p) e
 pub spaced-read : (w v : ℕ) → v < 10 ^ suc w → spaced (filled 32 (suc w) v) ≡ Value v
 spaced-read = filled-read 32 spaced (λ t. refl) spaced-digit spaced-then
 
+pub spaced-back : (w v : ℕ) → 0 < w → v < 10 ^ w → spaced (filled 32 w v) ≡ Value v
+spaced-back zero v h k = absurd (omega arith)
+spaced-back (suc w) v h k = spaced-read w v k
+
 -- a number that is read behind the spaces p
 spaced-written : (p s : List ℕ) (v : ℕ) → Written (rest 32) p 0 → spaced s ≡ Value v → Written (filled 32) (p ++ s) v
 spaced-written p [] v w e = absurd (bad-value e)

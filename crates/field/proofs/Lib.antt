@@ -3,3 +3,4 @@ pub mod Laws
 pub mod Returns
 pub mod Scan
 pub mod Stores
+pub mod Widths

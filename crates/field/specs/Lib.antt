@@ -2,3 +2,4 @@ pub mod Byte
 pub mod Kept
 pub mod Number
 pub mod Skipped
+pub mod Widths

@@ -17,7 +17,7 @@ use Rattle.field.specs.declared.Class.the-variants.{Printable, Space, Digit, He
 use Rattle.field.specs.declared.Number.{Number}
 use Rattle.field.specs.declared.Number.the-variants.{Value as Number·Value, Bad}
 use Rattle.field.proofs.Fill.{between, is-between}
-use Rattle.field.proofs.Laws.{within-value, length-filled, length-price, digits-read, digits-write, spaced-read, spaced-write, price-read, price-write}
+use Rattle.field.proofs.Laws.{within-value, length-filled, length-price, digits-read, digits-write, spaced-back, spaced-write, price-read, price-write}
 use Rattle.layout.specs.Rule.{Kind, text, textOrBlank, blank, digitsOrBlank, hex, isKind, Rule, number, digits, price, code, kept}
 use Rattle.layout.specs.Rule.{Value, num, run, got, broken, gotNumber, gotRun, reads, lawful, writes, fits}
 
@@ -86,10 +86,6 @@ reads-writes (kept kind) b v e =
     rw (g .0) (run-lawful (isKind kind b) b (g .1), refl)
 
 -- ---- writing, then reading
-
-spaced-back : (w v : ℕ) → 0 < w → v < 10 ^ w → spaced (filled 32 w v) ≡ Number·Value v
-spaced-back zero v h k = absurd (omega arith)
-spaced-back (suc w) v h k = spaced-read w v k
 
 pub writes-reads : (k : Rule) (w : ℕ) (v : Value) → fits k w ≡ true → lawful k w v ≡ true
     → (reads k (writes k w v) ≡ got v) × (length (writes k w v) ≡ w)
