@@ -15,7 +15,8 @@ use Rattle.field.specs.Byte.{all}
 use Rattle.layout.specs.Layout.{part}
 use Rattle.order.specs.declared.Key.{Key}
 use Rattle.order.specs.declared.Order.{Order}
-use Rattle.day.specs.Machine.{Table, place, amend}
+use Rattle.day.specs.Machine.{place, amend}
+use Rattle.day.specs.Tables.{Table}
 use Rattle.slot.specs.Slots.{slotBytes, termsBytes, figuresBytes, orderIn, Fits}
 use Rattle.slot.specs.Places.{slotAt, slot, ordersIn}
 use Rattle.table.specs.Tables.{countIn, tableIn, tailZero}

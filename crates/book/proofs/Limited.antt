@@ -4,7 +4,8 @@ use mathlib.Core.Path.{_≡_, sym, ap, _∙_}
 use mathlib.Core.Bool.{true}
 use mathlib.Core.List.{List}
 use lib.ListN.{length}
-use Rattle.day.specs.Machine.{Booked, book}
+use Rattle.day.specs.Machine.{book}
+use Rattle.day.specs.Tables.{Booked}
 use Rattle.table.specs.Tables.{limitOf, tableIn, sound}
 use Rattle.table.proofs.Limits.{limit-is}
 use Rattle.book.specs.Bytes.{bookAnswer, bookBytes}

@@ -20,7 +20,8 @@ use Rattle.order.specs.declared.Key.{Key}
 use Rattle.order.specs.declared.Order.{Order}
 use Rattle.day.specs.Damage.{soundOrder, allSound, eldersOf, earlier, undamaged}
 use Rattle.day.specs.History.{isNew}
-use Rattle.day.specs.Machine.{Table, place, amend, withFigures, newOrder, refusalOf, bookEvent, accept, Booked, bookRead}
+use Rattle.day.specs.Machine.{place, amend, withFigures, newOrder, refusalOf, bookEvent, accept, bookRead}
+use Rattle.day.specs.Tables.{Table, Booked}
 use Rattle.day.specs.Machine.{book as bookDay}
 use Rattle.day.proofs.Admitted.{Admitted, admitted, Spoken, spoken}
 use Rattle.day.proofs.Orders.{Finds, stands, length-amend}

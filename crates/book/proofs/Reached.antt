@@ -5,7 +5,7 @@ use mathlib.Core.Bool.{true}
 use mathlib.Core.List.{List, [], _∷_}
 use lib.ListN.{length}
 use Rattle.day.specs.Demand3.{tableAfter, answerTo}
-use Rattle.day.specs.Machine.{Table}
+use Rattle.day.specs.Tables.{Table}
 use Rattle.day.specs.Machine.{book as bookDay}
 use Rattle.table.specs.Tables.{tableIn, sound}
 use Rattle.table.proofs.Making.{empty-sound}

@@ -12,7 +12,7 @@ use Rattle.field.specs.Byte.{all}
 use Rattle.layout.specs.Layout.{part}
 use Rattle.layout.proofs.Rules.{both}
 use Rattle.day.specs.Damage.{undamaged}
-use Rattle.day.specs.Machine.{Table}
+use Rattle.day.specs.Tables.{Table}
 use Rattle.table.specs.Tables.{countIn, limitOf, tableIn, tailZero, tailsZero, slotsSound, sound}
 use Rattle.table.proofs.Limits.{limit-is, limit-most}
 use Rattle.book.proofs.Holding.{TailZero, Holds}

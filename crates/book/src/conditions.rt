@@ -16,40 +16,20 @@ use order::Series;
 pub fn is_new(event: Event) -> bool
     ensures { λ r. ⌜ r ≡ isNew event ⌝ }
 {
-    match event {
-        Event::Accepted => true,
-        Event::Executed(_) => false,
-        Event::Cancelled => false,
-        Event::Broken(_) => false,
-        Event::Replaced => false,
-        Event::Repriced => false,
-    }
+    rule::type_of(event) == b'A'
 }
 
 pub fn is_maker(event: Event) -> bool
     ensures { λ r. ⌜ r ≡ isMaker event ⌝ }
 {
-    match event {
-        Event::Accepted => true,
-        Event::Executed(_) => false,
-        Event::Cancelled => false,
-        Event::Broken(_) => false,
-        Event::Replaced => true,
-        Event::Repriced => false,
-    }
+    let t = rule::type_of(event);
+    (t == b'A') | rule::is_replace(t)
 }
 
 fn is_replace(event: Event) -> bool
     ensures { λ r. ⌜ r ≡ isReplace event ⌝ }
 {
-    match event {
-        Event::Accepted => false,
-        Event::Executed(_) => false,
-        Event::Cancelled => false,
-        Event::Broken(_) => false,
-        Event::Replaced => true,
-        Event::Repriced => false,
-    }
+    rule::is_replace(rule::type_of(event))
 }
 
 // The key of the order that a line speaks of: for U, the elder.

@@ -12,7 +12,8 @@ use Rattle.layout.specs.declared.Record.{Record}
 use Rattle.order.specs.Names.{keyOf}
 use Rattle.order.specs.declared.Order.{Order}
 use Rattle.day.specs.History.{isNew, isMaker}
-use Rattle.day.specs.Machine.{Table, found, find, isFound, differs, notOpen, notExecuted, refusalOf}
+use Rattle.day.specs.Machine.{found, find, isFound, differs, notOpen, notExecuted, refusalOf}
+use Rattle.day.specs.Tables.{Table}
 use Rattle.day.specs.Refusals.{subject}
 use Rattle.day.proofs.Orders.{Finds, finds, finds-found}
 

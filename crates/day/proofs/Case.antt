@@ -3,7 +3,8 @@ use mathlib.Core.Path.{refl}
 use Rattle.layout.specs.Line.{read, lineOf}
 use Rattle.day.specs.Case.{WholeCase}
 use Rattle.day.specs.Machine.{book}
+use Rattle.day.specs.Walk.{sheetOf}
 
-pub whole-case : WholeCase (book 512)
+pub whole-case : WholeCase (book 512) sheetOf
 unfolding read lineOf
-whole-case = record { line-7 = refl; others = refl; sheet = refl; orders = refl }
+whole-case = record { line-7 = refl; others = refl; shows = refl }

@@ -11,13 +11,14 @@ use lib.ListN.{length, length-map}
 use Rattle.refusal.specs.Answer.{value, refused}
 use Rattle.layout.specs.Line.{Said, endOfDay, line, read}
 use Rattle.layout.specs.declared.Record.{Record}
-use Rattle.order.specs.Names.{keyOf}
+use Rattle.order.proofs.Sameness.{series-same}
+use Rattle.order.specs.Names.{keyOf, seriesOf, sameSeries}
 use Rattle.order.specs.declared.Key.{Key}
 use Rattle.order.specs.declared.Order.{Order}
 use Rattle.day.specs.History.{History, isNew, isExecution, isBreak, isCancel, isReplace, isReprice, isMaker}
 use Rattle.day.specs.History.{executedOf, brokenOf, openOf, makers, orderOf, ordersOf, known, making}
 use Rattle.day.specs.Machine.{refusalOf, Found, nobody, found, find, isFound, differs, notOpen, notExecuted}
-use Rattle.day.specs.Refusals.{subject, OfOrder, sameAs, DayOver, KnownKey, UnknownKey, OtherSeries, NotOpen, NotExecuted, Full}
+use Rattle.day.specs.Refusals.{subject, OfOrder, Alike, DayOver, KnownKey, UnknownKey, OtherSeries, NotOpen, NotExecuted, Full}
 use Rattle.day.specs.Refusals.{rule, Reads, rules}
 use Rattle.day.proofs.Chain.{Judged, skipped, Says, Check, check, rulesOf, firstOf, answerBy, chain-judged, chain-after}
 use Rattle.day.proofs.Legal.{Legal}
@@ -39,6 +40,13 @@ or-says {P} {Q} false b p q = (λ e. inr (q .0 e), go)
 
 not-says : (a : Bool) → Says (not a) (a ≡ false)
 not-says a = (not-true a, λ e. rw e)
+
+not-so : {P : Type 0} {a : Bool} → Says a P → Says (not a) (P → ⊥)
+not-so {P} {a} s = (λ e h. false≢true (sym (not-true a e) ∙ s .1 h), λ n. go a s n)
+  where
+    go : (a : Bool) → Says a P → (P → ⊥) → not a ≡ true
+    go true s n = absurd (n (s .0 refl))
+    go false s n = refl
 
 ltb-says : (a b : ℕ) → Says (ltb a b) (a < b)
 ltb-says a b = (ltb-true a b, lt-ltb a b)
@@ -75,7 +83,10 @@ module _ (h : History) (l : Legal h) (r : Record) where
       (and-says (not (isNew (r .event))) (not (known (subject r) h)) (not-says (isNew (r .event))) (not-says (known (subject r) h)))
 
   other-series : Says (not (isNew (r .event)) && differs r (find (subject r) (ordersOf h))) (OtherSeries h (line r))
-  other-series = of-theirs (differs r) refl (λ k. not-says (sameAs (making (subject r) h r) r))
+  other-series =
+      let m = making (subject r) h r in
+      of-theirs (differs r) refl
+      (λ k. not-so (and-says (eqb (m .side) (r .side)) (sameSeries (seriesOf m) (seriesOf r)) (eqb-says (m .side) (r .side)) (series-same (seriesOf m) (seriesOf r))))
 
   not-open : Says (not (isNew (r .event)) && notOpen r (find (subject r) (ordersOf h))) (NotOpen h (line r))
   not-open =

@@ -16,7 +16,7 @@ use Rattle.order.specs.declared.Order.{Order}
 use Rattle.day.specs.Damage.{eldersOf}
 use Rattle.day.specs.Demand3.{historyAfter}
 use Rattle.day.specs.History.{History, isNew, isMaker, isReplace, addIf, makers, orderOf, ordersOf, countOf}
-use Rattle.day.specs.Listing.{rootCount}
+use Rattle.day.specs.Walk.{rootCount}
 use Rattle.day.specs.Machine.{place, amend, withFigures, newOrder, bookEvent, book}
 use Rattle.day.proofs.Legal.{Legal, elder-known}
 use Rattle.day.proofs.Lookup.{place-found, is-known}

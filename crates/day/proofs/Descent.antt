@@ -9,7 +9,8 @@ use Rattle.order.specs.declared.Order.{Order}
 use Rattle.day.specs.Damage.{eldersOf, earlier, unshared, undamaged}
 use Rattle.day.specs.Demand3.{tableAfter, Ancestor, elder, older, Descent}
 use Rattle.day.specs.Listing.{elderAt}
-use Rattle.day.specs.Machine.{Table, book}
+use Rattle.day.specs.Machine.{book}
+use Rattle.day.specs.Tables.{Table}
 use Rattle.day.proofs.Elders.{earlier-at, unshared-at}
 use Rattle.day.proofs.Keys.{one-key}
 use Rattle.day.proofs.Orders.{length-elders}

@@ -18,10 +18,11 @@ use Rattle.order.specs.declared.Key.{Key}
 use Rattle.order.specs.declared.Order.{Order}
 use Rattle.day.specs.Demand3.{tableAfter}
 use Rattle.day.specs.History.{isMaker}
-use Rattle.day.specs.Machine.{Table, Found, found, find, isFound, place, amend, refusalOf, newOrder, withFigures, withPrice, bookEvent, accept, book}
+use Rattle.day.specs.Machine.{Found, found, find, isFound, place, amend, refusalOf, newOrder, withFigures, withPrice, bookEvent, accept, book}
+use Rattle.day.specs.Tables.{Table}
 use Rattle.day.proofs.Admitted.{admitted}
 use Rattle.day.proofs.Booking.{book-keeps}
-use Rattle.day.proofs.KeyTest.{key-comm}
+use Rattle.order.proofs.Sameness.{key-comm}
 use Rattle.day.proofs.Orders.{map-amend}
 
 abbrev key : Order → Key

@@ -13,7 +13,7 @@ use Rattle.order.specs.Names.{keyOf, elderKeyOf, sameKey}
 use Rattle.order.specs.declared.Key.{Key}
 use Rattle.day.specs.History.{History, isNew, isReplace, isMaker, makes, about, replaces, sumOf, passedOf, makers, known}
 use Rattle.day.specs.Refusals.{subject}
-use Rattle.day.proofs.KeyTest.{key-eq, key-comm, key-self}
+use Rattle.order.proofs.Sameness.{key-eq, key-comm, key-self}
 
 -- a line that may follow a history, as far as keys go
 pub record Follows (h : History) (r : Record) : Type 0 where
@@ -60,28 +60,32 @@ not-both : (a b : Bool) → (a ≡ true → b ≡ false) → (a && b) ≡ false
 not-both true b f = f refl
 not-both false b f = refl
 
--- a line that follows says nothing of an unknown key
-pub unsaid : (h : History) (r : Record) (k : Key) → Follows h r → known k h ≡ false → (about k r ≡ false) × (replaces k r ≡ false)
-unsaid h r k f n =
-    let e = r .event in (
-      not-both (not (isMaker e)) (sameKey (keyOf r) k) (λ q. apart h (keyOf r) k (own-known h r f (not-true (isMaker e) q)) n .0),
-      not-both (isReplace e) (sameKey (elderKeyOf r) k) (λ q. apart h (elderKeyOf r) k (elder-known h r f q) n .0),
-    )
+-- a line that follows replaces nobody with an unknown key
+pub unreplaced : (h : History) (r : Record) (k : Key) → Follows h r → known k h ≡ false → replaces k r ≡ false
+unreplaced h r k f n = not-both (isReplace (r .event)) (sameKey (elderKeyOf r) k) (λ q. apart h (elderKeyOf r) k (elder-known h r f q) n .0)
 
--- so its figures are 0
-pub unknown-sum : (kind : Event → Bool) (k : Key) (h : History) → Legal h → known k h ≡ false → sumOf kind k h ≡ 0
-unknown-sum kind k [] l n = refl
-unknown-sum kind k (endOfDay ∷ h) l n = unknown-sum kind k h l n
-unknown-sum kind k (line r ∷ h) l n =
+-- whoever an E, C, X or R that follows names is known
+pub named-known : (h : History) (r : Record) (k : Key) → Follows h r → isMaker (r .event) ≡ false → (sameKey (keyOf r) k && known k h) ≡ sameKey (keyOf r) k
+named-known h r k f q = go (sameKey (keyOf r) k) refl
+  where
+    go : (t : Bool) → sameKey (keyOf r) k ≡ t → (t && known k h) ≡ t
+    go true s = subst (λ (x : Key). known x h ≡ true) (key-eq (keyOf r) k s) (own-known h r f q)
+    go false s = refl
+
+-- the figures of an unknown key are 0
+pub unknown-sum : (kind : Event → Bool) (k : Key) (h : History) → known k h ≡ false → sumOf kind k h ≡ 0
+unknown-sum kind k [] n = refl
+unknown-sum kind k (endOfDay ∷ h) n = unknown-sum kind k h n
+unknown-sum kind k (line r ∷ h) n =
     let before = neither (makes k r) (known k h) n .1 in
-    rw (unsaid h r k (l .0) before .0, and-false (kind (r .event))) (unknown-sum kind k h (l .1) before)
+    rw before (simp and-false (unknown-sum kind k h before))
 
 pub unknown-passed : (k : Key) (h : History) → Legal h → known k h ≡ false → passedOf k h ≡ 0
 unknown-passed k [] l n = refl
 unknown-passed k (endOfDay ∷ h) l n = unknown-passed k h l n
 unknown-passed k (line r ∷ h) l n =
     let before = neither (makes k r) (known k h) n .1 in
-    rw (unsaid h r k (l .0) before .1) (unknown-passed k h (l .1) before)
+    rw (unreplaced h r k (l .0) before) (unknown-passed k h (l .1) before)
 
 -- ---- the lines that made an order
 

@@ -8,7 +8,6 @@ pub mod Demand3
 pub mod Descent
 pub mod Elders
 pub mod Figures
-pub mod KeyTest
 pub mod Keys
 pub mod Lawful
 pub mod Legal
@@ -17,6 +16,8 @@ pub mod Lookup
 pub mod Orders
 pub mod Reached
 pub mod Refuted
+pub mod Rows
+pub mod Settled
 pub mod Shown
 pub mod Sound
 pub mod Steps

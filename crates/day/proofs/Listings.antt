@@ -12,7 +12,8 @@ use lib.Dec.{eqb}
 use lib.ListN.{length, drop, length-drop}
 use lib.Seq.{drop-cons}
 use Rattle.day.specs.Damage.{earlier, unshared}
-use Rattle.day.specs.Listing.{Row, row, below, families, elderAt, Youngest, NextRoot, NoRoot, Behind, Listed}
+use Rattle.day.specs.Listing.{Member, elderAt, Youngest, NextRoot, NoRoot, Behind, Listed}
+use Rattle.day.specs.Walk.{member, below, families}
 use Rattle.day.proofs.Elders.{earlier-at, unshared-at}
 
 -- what holds whichever way a test goes
@@ -50,29 +51,29 @@ at-end es j e = omega (arith, simp length-drop at (ap length e))
 abbrev Unreplaced : List ℕ → ℕ → ℕ → Type 0
 Unreplaced es i j = (p : ℕ) → p < j → elderAt es p ≡ i + 1 → ⊥
 
--- a row in front of all others, of an order that there is not
-abbrev pub front : List ℕ → Row
-front es = row 0 0 (length es)
+-- a member in front of all others, of an order that there is not
+abbrev pub front : List ℕ → Member
+front es = member 0 0 (length es)
 
 module _ (es : List ℕ) (ordered : earlier 0 es ≡ true) where
   younger-later : (i : ℕ) → i < length es → Unreplaced es i (i + 1)
   younger-later i l p m q = omega (arith, earlier-at es ordered p (omega arith))
 
   -- down a family to its youngest order, and over to the rest
-  members : (b f k i j : ℕ) (s : List ℕ) (rest : List Row) → drop j es ≡ s → Unreplaced es i j
-      → ((r : Row) → r .family ≡ f → Youngest es (r .at) → Behind es b r rest) → Behind es b (row f k i) (below f k i j s ++ rest)
-  members b f k i j [] rest e h over = over (row f k i) refl (λ p l. h p (omega (arith, at-end es j e)))
+  members : (b f k i j : ℕ) (s : List ℕ) (rest : List Member) → drop j es ≡ s → Unreplaced es i j
+      → ((r : Member) → r .family ≡ f → Youngest es (r .at) → Behind es b r rest) → Behind es b (member f k i) (below f k i j s ++ rest)
+  members b f k i j [] rest e h over = over (member f k i) refl (λ p l. h p (omega (arith, at-end es j e)))
   members b f k i j (x ∷ s) rest e h over =
       let c = cut es j x s e in
       let found = members b f (k + 1) j (j + 1) s rest (c .next) (younger-later j (c .inside)) over in
       let passed = one-more (λ (p : ℕ). elderAt es p ≡ i + 1 → ⊥) j h in
-      by-test (λ (l : List Row). Behind es b (row f k i) (l ++ rest)) (eqb x (i + 1))
+      by-test (λ (l : List Member). Behind es b (member f k i) (l ++ rest)) (eqb x (i + 1))
       (λ t. inl (c .here ∙ eqb-true x (i + 1) t, c .inside, refl, refl, found))
       (λ t. members b f k i (j + 1) s rest (c .next) (passed (λ q. eqb-false x (i + 1) t (sym (c .here) ∙ q))) over)
 
   -- over to the next family, where none from place b up to i has no elder
   onward : (b f i : ℕ) (s : List ℕ) → drop i es ≡ s → b ≤ i → ((p : ℕ) → p < i → b ≤ p → elderAt es p ≡ 0 → ⊥)
-      → (r : Row) → r .family + 1 ≡ f → Youngest es (r .at) → Behind es b r (families f i s)
+      → (r : Member) → r .family + 1 ≡ f → Youngest es (r .at) → Behind es b r (families f i s)
   onward b f i [] e m h r n y = (y, λ p a l. h p (omega (arith, at-end es i e)) a)
   onward b f i (zero ∷ s) e m h r n y =
       let c = cut es i 0 s e in
@@ -90,7 +91,7 @@ module _ (es : List ℕ) (ordered : earlier 0 es ≡ true) where
       let youngest : Youngest es (length es) = λ p l q. omega (arith, earlier-at es ordered p l) in
       onward 0 1 0 es refl (omega arith) (λ p l. absurd (omega arith)) (front es) refl youngest
 
-  started : (rows : List Row) → Behind es 0 (front es) rows → Listed es rows
+  started : (rows : List Member) → Behind es 0 (front es) rows → Listed es rows
   started [] h = h .1
   started (q ∷ rows) (inl h) = absurd (omega (arith, earlier-at es ordered (q .at) (h .1)))
   started (q ∷ rows) (inr h) = (h .1, h .2, h .3, h .4)
@@ -100,7 +101,7 @@ module _ (es : List ℕ) (ordered : earlier 0 es ≡ true) where
 
 -- ---- the description fixes the listing
 
-same-row : (q p : Row) → q .family ≡ p .family → q .rank ≡ p .rank → q .at ≡ p .at → q ≡ p
+same-row : (q p : Member) → q .family ≡ p .family → q .rank ≡ p .rank → q .at ≡ p .at → q ≡ p
 same-row q p f k a = λ i. record { family = f i; rank = k i; at = a i }
 
 module _ (es : List ℕ) where
@@ -113,12 +114,12 @@ module _ (es : List ℕ) where
   root-or-none : (b i : ℕ) → NextRoot es b i → NoRoot es b → ⊥
   root-or-none b i x n = n i (x .from) (x .inside) (x .rootless)
 
-  more-or-none : (b : ℕ) (r q : Row) (rows : List Row) → Behind es b r (q ∷ rows) → Behind es b r [] → ⊥
+  more-or-none : (b : ℕ) (r q : Member) (rows : List Member) → Behind es b r (q ∷ rows) → Behind es b r [] → ⊥
   more-or-none b r q rows (inl h) k = k .0 (q .at) (h .1) (h .0)
   more-or-none b r q rows (inr h) k = root-or-none b (q .at) (h .1) (k .1)
 
 module _ (es : List ℕ) (single : unshared es ≡ true) where
-  behind-fixed : (b : ℕ) (r : Row) (x y : List Row) → Behind es b r x → Behind es b r y → x ≡ y
+  behind-fixed : (b : ℕ) (r : Member) (x y : List Member) → Behind es b r x → Behind es b r y → x ≡ y
   behind-fixed b r [] [] h k = refl
   behind-fixed b r [] (p ∷ y) h k = absurd (more-or-none es b r p y k h)
   behind-fixed b r (q ∷ x) [] h k = absurd (more-or-none es b r q x h k)
@@ -132,7 +133,7 @@ module _ (es : List ℕ) (single : unshared es ≡ true) where
       let e = same-row q p (h .2 ∙ sym (k .2)) (h .3 ∙ sym (k .3)) (one-root es b (q .at) (p .at) (h .1) (k .1)) in
       ap₂ _∷_ e (behind-fixed (q .at + 1) q x y (h .4) (rw (← e) at (k .4)))
 
-  pub listing-fixed : (a b : List Row) → Listed es a → Listed es b → a ≡ b
+  pub listing-fixed : (a b : List Member) → Listed es a → Listed es b → a ≡ b
   listing-fixed [] [] h k = refl
   listing-fixed [] (p ∷ y) h k = absurd (root-or-none es 0 (p .at) (k .0) h)
   listing-fixed (q ∷ x) [] h k = absurd (root-or-none es 0 (q .at) (h .0) k)

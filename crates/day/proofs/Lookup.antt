@@ -11,8 +11,9 @@ use Rattle.order.specs.Names.{keyOf, sameKey}
 use Rattle.order.specs.declared.Key.{Key}
 use Rattle.order.specs.declared.Order.{Order}
 use Rattle.day.specs.History.{History, isMaker, makes, makers, oneMore, placeOf, orderOf, ordersOf, known, making, isOver}
-use Rattle.day.specs.Machine.{Table, Found, nobody, found, find, isFound, place, amend}
-use Rattle.day.proofs.KeyTest.{key-eq}
+use Rattle.day.specs.Machine.{Found, nobody, found, find, isFound, place, amend}
+use Rattle.day.specs.Tables.{Table}
+use Rattle.order.proofs.Sameness.{key-eq}
 use Rattle.day.proofs.Legal.{Legal, fresh-unknown}
 
 -- ---- any table

@@ -11,9 +11,10 @@ use Rattle.layout.specs.declared.Event.the-variants.{Replaced}
 use Rattle.layout.specs.declared.Record.{Record}
 use Rattle.order.specs.Names.{keyOf}
 use Rattle.order.specs.declared.Key.{Key}
-use Rattle.day.specs.Demand3.{tableAfter, answerTo, joined, historyAfter}
+use Rattle.day.specs.Demand3.{IsAnswer, tableAfter, answerTo, joined, historyAfter}
 use Rattle.day.specs.History.{History, isNew, isMaker, isReplace, ordersOf, known, isOver}
-use Rattle.day.specs.Machine.{Table, refusalOf, bookRead, book}
+use Rattle.day.specs.Machine.{refusalOf, bookRead, book}
+use Rattle.day.specs.Tables.{Table}
 use Rattle.day.specs.Refusals.{subject, rules, NoneOf, FirstOf}
 use Rattle.day.proofs.Chain.{Judged, judged-accepted, judged-refused, answerBy, refused-by}
 use Rattle.day.proofs.Checks.{said-after}
@@ -27,12 +28,12 @@ pub reached : (limit : ℕ) (ps : List (List ℕ)) → let h = historyAfter (boo
 reached limit [] = (tt, refl)
 reached limit (p ∷ ps) =
     let h = historyAfter (book limit) ps in
-    let after : Table → History = λ t. joined (book limit) (book limit t p .answer) (read p) h in
+    let after : Table → History = λ t. joined (book limit t p .answer) (read p) h in
     let before = reached limit ps in
     subst (λ (t : Table). Legal (after t) × (book limit t p .table ≡ dayOf (after t))) (sym (before .1)) (next limit h (before .0) p)
 
-pub figures : (limit : ℕ) (ps : List (List ℕ)) → tableAfter (book limit) ps .orders ≡ ordersOf (historyAfter (book limit) ps)
-figures limit ps = ap (λ (t : Table). t .orders) (reached limit ps .1)
+pub orders-told : (limit : ℕ) (ps : List (List ℕ)) → tableAfter (book limit) ps .orders ≡ ordersOf (historyAfter (book limit) ps)
+orders-told limit ps = ap (λ (t : Table). t .orders) (reached limit ps .1)
 
 pub mark : (limit : ℕ) (ps : List (List ℕ)) → tableAfter (book limit) ps .over ≡ isOver (historyAfter (book limit) ps)
 mark limit ps = ap (λ (t : Table). t .over) (reached limit ps .1)
@@ -48,15 +49,15 @@ judged limit ps p =
     let h = historyAfter (book limit) ps in
     subst (Judged (rules limit h p)) (sym (answer-reached limit ps p)) (verdict limit h (reached limit ps .0) p)
 
-pub accepted : (limit : ℕ) (ps : List (List ℕ)) (p : List ℕ)
+accepted : (limit : ℕ) (ps : List (List ℕ)) (p : List ℕ)
     → (answerTo (book limit) ps p ≡ value tt) ↔ NoneOf (rules limit (historyAfter (book limit) ps) p)
 accepted limit ps p = judged-accepted _ _ (judged limit ps p)
 
-pub refused-first : (limit : ℕ) (ps : List (List ℕ)) (p : List ℕ) (n : ℕ)
+refused-first : (limit : ℕ) (ps : List (List ℕ)) (p : List ℕ) (n : ℕ)
     → ((f : ℕ) × (answerTo (book limit) ps p ≡ refused n f)) ↔ FirstOf (rules limit (historyAfter (book limit) ps) p) n
 refused-first limit ps p n = judged-refused _ _ n (judged limit ps p)
 
-pub refused-field : (limit : ℕ) (ps : List (List ℕ)) (p : List ℕ) (f : ℕ) → (answerTo (book limit) ps p ≡ refused 3 f) ↔ (read p ≡ refused 3 f)
+refused-field : (limit : ℕ) (ps : List (List ℕ)) (p : List ℕ) (f : ℕ) → (answerTo (book limit) ps p ≡ refused 3 f) ↔ (read p ≡ refused 3 f)
 refused-field limit ps p f = (
   λ q. go (read p) refl (sym (answer-reached limit ps p) ∙ q),
   λ e. ap (λ (a : Answer Said). bookRead limit (tableAfter (book limit) ps) a .answer) e,
@@ -69,7 +70,7 @@ refused-field limit ps p f = (
         absurd (said-after limit h (reached limit ps .0) p x e (refused-by n 3 f (sym (said-answer limit (dayOf h) x) ∙ q) .0))
     go (refused n g) e q = cc
 
-pub refused-plain : (limit : ℕ) (ps : List (List ℕ)) (p : List ℕ) (n f : ℕ) → answerTo (book limit) ps p ≡ refused n f → (n ≡ 3 → ⊥) → f ≡ 0
+refused-plain : (limit : ℕ) (ps : List (List ℕ)) (p : List ℕ) (n f : ℕ) → answerTo (book limit) ps p ≡ refused n f → (n ≡ 3 → ⊥) → f ≡ 0
 refused-plain limit ps p n f q other = go (read p) refl q
   where
     read-plain : (m g : ℕ) → _≡_ {A = Answer (Unit {0})} (refused m g) (refused n f) → ((m ≡ 1) × (g ≡ 0)) ⊎ ((m ≡ 2) × (g ≡ 0)) ⊎ (m ≡ 3) → f ≡ 0
@@ -82,6 +83,15 @@ refused-plain limit ps p n f q other = go (read p) refl q
         let t = tableAfter (book limit) ps in
         refused-by (refusalOf limit t x) n f (sym (said-answer limit t x) ∙ q) .1
     go (refused m g) e q = read-plain m g q (demand2 .other-reads p m g e)
+
+pub answers : (limit : ℕ) (ps : List (List ℕ)) (p : List ℕ) → IsAnswer limit (historyAfter (book limit) ps) p (answerTo (book limit) ps p)
+answers limit ps p =
+    record {
+      accepted = accepted limit ps p;
+      refused-first = refused-first limit ps p;
+      refused-field = refused-field limit ps p;
+      refused-plain = refused-plain limit ps p;
+    }
 
 -- ---- "An order replaced itself."
 

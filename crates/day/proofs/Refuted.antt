@@ -20,10 +20,14 @@ use Rattle.day.specs.Case.{sample, host, token, fill, naming, replacing}
 use Rattle.day.specs.Damage.{openAt}
 use Rattle.day.specs.Demand3.{Demand3, tableAfter, answerTo, historyAfter}
 use Rattle.day.specs.History.{History, ordersOf, isOver, isExecution, isCancel, isReplace, isReprice, openOf, figuresOf}
-use Rattle.day.specs.Listing.{Sheet, shown}
-use Rattle.day.specs.Machine.{Table, empty, Booked, bookEvent, bookRead, book}
+use Rattle.day.specs.Listing.{Row, Sheet, membersOf, Each, shown}
+use Rattle.day.specs.Machine.{bookEvent, bookRead, book}
+use Rattle.day.specs.Tables.{Table, empty, Booked}
 use Rattle.day.specs.Refusals.{subject, rules, NoneOf, Reads, OfOrder, DayOver, KnownKey, UnknownKey, OtherSeries, NotOpen, NotExecuted, Full}
-use Rattle.day.specs.Wrong.{RefusesAll, ChangesNothing, NodsAtRest, InventsOrders, InventsFamilies, ShowsNothing, bookReadWith, bookWith, Lookup, Effect, ownKey, subjectKey, Returns, breakingBy, byToken, ownOpen}
+use Rattle.day.specs.Walk.{sheetOf}
+use Rattle.day.specs.Wrong.{RefusesAll, ChangesNothing, NodsAtRest, InventsOrders, InventsFamilies, ShowsNothing, ShowsNoOpen, exchanged, exchanging, bookReadWith, bookWith, Lookup, Effect, ownKey, subjectKey, Returns, breakingBy, byToken, ownOpen}
+use Rattle.day.proofs.Demand3.{demand3}
+use Rattle.day.proofs.Settled.{settled}
 
 -- with our own parts the machine of specs/Wrong.antt is our booking
 pub ours-is-one : bookWith ownKey subjectKey bookEvent ≡ book
@@ -38,38 +42,39 @@ infixr 3 _and_
 _and_ : {A B : Type 0} → A → B → A × B
 _and_ a b = (a, b)
 
--- no refusal from 6 to 12, and of 10 neither half
+-- no refusal from 6 to 12 but perhaps 9, and of 10 neither half
 abbrev Allowed : ℕ → History → Record → Type 0
 Allowed limit h r =
-    (DayOver h (line r) → ⊥) × (KnownKey h (line r) → ⊥) × (UnknownKey h (line r) → ⊥) × (OtherSeries h (line r) → ⊥)
+    (DayOver h (line r) → ⊥) × (KnownKey h (line r) → ⊥) × (UnknownKey h (line r) → ⊥)
     × (OfOrder h r (((isExecution (r .event) || isCancel (r .event)) ≡ true) × (openOf (subject r) h < r .contracts)) → ⊥)
     × (OfOrder h r (((isReplace (r .event) || isReprice (r .event)) ≡ true) × (openOf (subject r) h ≡ 0)) → ⊥)
     × (NotExecuted h (line r) → ⊥)
     × (Full limit h (line r) → ⊥)
 
-unrefused : (limit : ℕ) (h : History) (r : Record) → read (lineOf r) ≡ value (line r) → Allowed limit h r → NoneOf (rules limit h (lineOf r))
-unrefused limit h r reads allowed =
+unrefused : (limit : ℕ) (h : History) (r : Record) → read (lineOf r) ≡ value (line r) → (OtherSeries h (line r) → ⊥) → Allowed limit h r
+    → NoneOf (rules limit h (lineOf r))
+unrefused limit h r reads alike allowed =
     (λ e. no-value (sym e ∙ reads))
     and (λ e. no-value (sym e ∙ reads))
     and (λ e. no-value (sym (e .1) ∙ reads))
     and (λ w. allowed .0 (said w))
     and (λ w. allowed .1 (said w))
     and (λ w. allowed .2 (said w))
-    and (λ w. allowed .3 (said w))
+    and (λ w. alike (said w))
     and (λ w. not-open (said w))
+    and (λ w. allowed .5 (said w))
     and (λ w. allowed .6 (said w))
-    and (λ w. allowed .7 (said w))
     and tt
   where
     said : {P : Said → Type 0} → Reads (lineOf r) P → P (line r)
     said {P} w = let same : w .0 ≡ line r = cc in subst P same (w .2)
 
     not-open : NotOpen h (line r) → ⊥
-    not-open w = ⊎-elim (λ e. allowed .4 (w .0, w .1, e)) (λ e. allowed .5 (w .0, w .1, e)) (w .2)
+    not-open w = ⊎-elim (λ e. allowed .3 (w .0, w .1, e)) (λ e. allowed .4 (w .0, w .1, e)) (w .2)
 
 -- after the lines rs, latest first, r reads and no refusal applies to it
 abbrev Fits : ℕ → List Record → Record → Type 0
-Fits limit rs r = (read (lineOf r) ≡ value (line r)) × Allowed limit (map line rs) r
+Fits limit rs r = (read (lineOf r) ≡ value (line r)) × (OtherSeries (map line rs) (line r) → ⊥) × Allowed limit (map line rs) r
 
 -- the table after them, as the demand has it
 abbrev tableOf : List Record → Table
@@ -101,17 +106,17 @@ module _ {limit : ℕ} {book : Table → List ℕ → Booked} {sheet : Table →
   held : (rs : List Record) → Taken rs → tableAfter book (map lineOf rs) ≡ tableOf rs
   held rs all =
       let ps = map lineOf rs in
-      λ i. record { orders = (demand .figures ps ∙ ap ordersOf all) i; over = (demand .mark ps ∙ ap isOver all) i }
+      λ i. record { orders = (demand .orders ps ∙ ap ordersOf all) i; over = (demand .mark ps ∙ ap isOver all) i }
 
   none-applies : (rs : List Record) (r : Record) → Taken rs
       → book (tableOf rs) (lineOf r) .answer ≡ value tt
       → NoneOf (rules limit (map line rs) (lineOf r))
-  none-applies rs r all e = rw all at (demand .accepted (map lineOf rs) (lineOf r) .0 (rw (held rs all, answerTo) e))
+  none-applies rs r all e = rw all at (demand .answers (map lineOf rs) (lineOf r) .accepted .0 (rw (held rs all, answerTo) e))
 
   answered : (rs : List Record) (r : Record) → Taken rs → Fits limit rs r → book (tableOf rs) (lineOf r) .answer ≡ value tt
   answered rs r all fits =
-      let none = unrefused limit (map line rs) r (fits .0) (fits .1) in
-      rw (held rs all, answerTo) at (demand .accepted (map lineOf rs) (lineOf r) .1 (rw all none))
+      let none = unrefused limit (map line rs) r (fits .0) (fits .1) (fits .2) in
+      rw (held rs all, answerTo) at (demand .answers (map lineOf rs) (lineOf r) .accepted .1 (rw all none))
 
   next : (rs : List Record) (r : Record) → Taken rs → Fits limit rs r → Taken (r ∷ rs)
   next rs r all fits = rw (held rs all, answerTo, answered rs r all fits, fits .0, all)
@@ -123,14 +128,14 @@ module _ {limit : ℕ} {book : Table → List ℕ → Booked} {sheet : Table →
   module _ (room : 1 ≤ limit) where
     order-fits : Fits limit [] order
     unfolding read lineOf
-    order-fits = (refl, omega tests)
+    order-fits = (refl, λ w. w .2 (refl, refl), omega tests)
 
     one : Taken (order ∷ [])
     one = next [] order refl order-fits
 
     trade-fits : Fits limit (order ∷ []) trade
     unfolding read lineOf
-    trade-fits = (refl, omega tests)
+    trade-fits = (refl, λ w. w .2 (refl, refl), omega tests)
 
     two : Taken (trade ∷ order ∷ [])
     two = next (order ∷ []) trade one trade-fits
@@ -148,18 +153,56 @@ module _ {limit : ℕ} {book : Table → List ℕ → Booked} {sheet : Table →
 
     pub invents-orders : InventsOrders sheet → ⊥
     invents-orders same =
-        let first = demand .counts-orders (lineOf order ∷ []) in
-        omega (arith, same empty (tableOf (order ∷ [])), demand .counts-orders [], rw (held (order ∷ []) one, one) at first)
+        let first = demand .sheet-so (lineOf order ∷ []) .orders in
+        omega (arith, same empty (tableOf (order ∷ [])), demand .sheet-so [] .orders, rw (held (order ∷ []) one, one) at first)
 
     pub invents-families : InventsFamilies sheet → ⊥
     invents-families same =
-        let first = demand .counts-families (lineOf order ∷ []) in
-        omega (arith, same empty (tableOf (order ∷ [])), demand .counts-families [], rw (held (order ∷ []) one, one) at first)
+        let first = demand .sheet-so (lineOf order ∷ []) .families in
+        omega (arith, same empty (tableOf (order ∷ [])), demand .sheet-so [] .families, rw (held (order ∷ []) one, one) at first)
 
     pub shows-nothing : ShowsNothing sheet → ⊥
     shows-nothing none =
         let once = demand .each-once (lineOf order ∷ []) 0 (rw one (omega arith)) in
-        omega (arith, ap (shown 0) (none (tableAfter book (lineOf order ∷ []))), once)
+        omega (arith, ap (λ rows. shown 0 (membersOf rows)) (none (tableAfter book (lineOf order ∷ []))), once)
+
+-- ---- ours: a sheet whose figures are not those of its orders
+
+-- what the first row shows as open
+firstOpen : List Row → ℕ
+firstOpen [] = 0
+firstOpen (q ∷ rows) = q .figures .«open»
+
+none-open : (rows : List Row) → Each (λ q. q .figures .«open» ≡ 0) rows → firstOpen rows ≡ 0
+unfolding firstOpen
+none-open [] h = refl
+none-open (q ∷ rows) h = h .0
+
+module _ {limit : ℕ} {book : Table → List ℕ → Booked} {sheet : Table → Sheet} (demand : Demand3 limit book sheet) where
+  -- whatever meets the demand shows what ours shows
+  shows-ours : (rs : List Record) → Taken demand rs → Taken (demand3 limit) rs → sheet (tableAfter book (map lineOf rs)) ≡ sheetOf (tableOf rs)
+  shows-ours rs all ours =
+      settled limit book _ sheet sheetOf demand (demand3 limit) .sheets (map lineOf rs) ∙ ap sheetOf (held (demand3 limit) rs ours)
+
+  -- A T1 30: 30 are open
+  pub shows-no-open : 1 ≤ limit → ShowsNoOpen sheet → ⊥
+  unfolding firstOpen
+  shows-no-open room none =
+      let same = shows-ours (order ∷ []) (one demand room) (one (demand3 limit) room) in
+      let t = tableAfter book (lineOf order ∷ []) in
+      omega (arith, none-open (sheet t .rows) (none t), ap (λ (s : Sheet). firstOpen (s .rows)) same)
+
+  -- A T1 30; A T9 5: 30 and 5 are open
+  pub exchanges-figures : 2 ≤ limit → Demand3 limit book (exchanging sheet) → ⊥
+  unfolding firstOpen read lineOf
+  exchanges-figures room other =
+      let rs = naming Accepted 9 5 ∷ order ∷ [] in
+      let fits : Fits limit (order ∷ []) (naming Accepted 9 5) = (refl, λ w. w .2 (refl, refl), omega tests) in
+      let all = next demand (order ∷ []) (naming Accepted 9 5) (one demand (omega arith)) fits in
+      let ours = next (demand3 limit) (order ∷ []) (naming Accepted 9 5) (one (demand3 limit) (omega arith)) fits in
+      let same = shows-ours rs all ours in
+      let again = settled limit book book sheet (exchanging sheet) demand other .sheets (map lineOf rs) in
+      omega (arith, ap (λ (s : Sheet). firstOpen (s .rows)) (sym same ∙ again), ap (λ (s : Sheet). firstOpen (exchanged (s .rows))) same)
 
 -- ---- 01, Errors a quick hand would make: none of them meets the demand
 
@@ -170,14 +213,14 @@ module _ {limit : ℕ} (room : 2 ≤ limit) {sheet : Table → Sheet} where
       → ⊥
   unfolding read lineOf
   returns-broken broken returns demand =
-      let os = booked demand (trade ∷ order ∷ []) break (two demand (omega arith)) (refl, omega tests) in
+      let os = booked demand (trade ∷ order ∷ []) break (two demand (omega arith)) (refl, λ w. w .2 (refl, refl), omega tests) in
       omega (arith, ap (λ os. openAt os 0) os, returns (figuresOf (keyOf order) (line trade ∷ line order ∷ [])) 30)
 
   -- "Looking up a U's elder by the line's own token": A T1 30; U T2 for T1, 60: not refused 8
   pub elder-by-own-token : (effect : Effect) → Demand3 limit (bookWith ownKey ownKey effect limit) sheet → ⊥
   unfolding read lineOf
   elder-by-own-token effect demand =
-      no-value (answered demand (order ∷ []) (replacing 2 1 60) (one demand (omega arith)) (refl, omega tests))
+      no-value (answered demand (order ∷ []) (replacing 2 1 60) (one demand (omega arith)) (refl, λ w. w .2 (refl, refl), omega tests))
 
   -- A T1 30; A T1 30 of ABCD02: not refused 7
   pub own-key-by-token : (theirs : Lookup) (effect : Effect)
@@ -185,7 +228,7 @@ module _ {limit : ℕ} (room : 2 ≤ limit) {sheet : Table → Sheet} where
       → ⊥
   unfolding read lineOf
   own-key-by-token theirs effect demand =
-      no-value (answered demand (order ∷ []) (elsewhere Accepted) (one demand (omega arith)) (refl, omega tests))
+      no-value (answered demand (order ∷ []) (elsewhere Accepted) (one demand (omega arith)) (refl, λ w. w .2 (refl, refl), omega tests))
 
   -- A T1 30; E T1 30 of ABCD02: refused 8
   pub subject-by-token : (own : Lookup) (effect : Effect)

@@ -11,32 +11,33 @@ use lib.Dec.{eqb}
 use lib.ListN.{length}
 use Rattle.layout.proofs.Rules.{same-test}
 use Rattle.day.specs.Damage.{earlier, unshared}
-use Rattle.day.specs.Listing.{Row, below, families, elderAt, Behind, shown}
+use Rattle.day.specs.Listing.{Member, elderAt, Behind, shown}
+use Rattle.day.specs.Walk.{below, families}
 use Rattle.day.proofs.Elders.{earlier-at, unshared-at}
 use Rattle.day.proofs.Listings.{by-test, front, walked}
 
 -- ---- no other, whatever the elders are
 
--- each row shows one of the first n orders
-abbrev Inside : ℕ → List Row → Type 0
+-- each member is one of the first n orders
+abbrev pub Inside : ℕ → List Member → Type 0
 Inside n [] = Unit {0}
 Inside n (q ∷ rows) = (q .at < n) × Inside n rows
 
-members-inside : (n f k i j : ℕ) (s : List ℕ) (rest : List Row) → j + length s ≤ n → Inside n rest → Inside n (below f k i j s ++ rest)
+members-inside : (n f k i j : ℕ) (s : List ℕ) (rest : List Member) → j + length s ≤ n → Inside n rest → Inside n (below f k i j s ++ rest)
 members-inside n f k i j [] rest h o = o
 members-inside n f k i j (x ∷ s) rest h o =
-    by-test (λ (l : List Row). Inside n (l ++ rest)) (eqb x (i + 1))
+    by-test (λ (l : List Member). Inside n (l ++ rest)) (eqb x (i + 1))
     (λ t. (omega arith, members-inside n f (k + 1) j (j + 1) s rest (omega arith) o))
     (λ t. members-inside n f k i (j + 1) s rest (omega arith) o)
 
-families-inside : (n f i : ℕ) (s : List ℕ) → i + length s ≤ n → Inside n (families f i s)
+pub families-inside : (n f i : ℕ) (s : List ℕ) → i + length s ≤ n → Inside n (families f i s)
 families-inside n f i [] h = tt
 families-inside n f i (zero ∷ s) h =
     let o = families-inside n (f + 1) (i + 1) s (omega arith) in
     (omega arith, members-inside n f 1 i (i + 1) s (families (f + 1) (i + 1) s) (omega arith) o)
 families-inside n f i (suc x ∷ s) h = families-inside n f (i + 1) s (omega arith)
 
-inside-shown : (n i : ℕ) (rows : List Row) → n ≤ i → Inside n rows → shown i rows ≡ 0
+inside-shown : (n i : ℕ) (rows : List Member) → n ≤ i → Inside n rows → shown i rows ≡ 0
 inside-shown n i [] l h = refl
 inside-shown n i (q ∷ rows) l h = rw (ne-eqb (q .at) i (λ e. omega arith)) (inside-shown n i rows l (h .1))
 
@@ -47,14 +48,14 @@ no-other es i l = inside-shown (length es) i (families 1 0 es) l (families-insid
 
 module _ (es : List ℕ) (m : ℕ) (rootless : elderAt es m ≡ 0) where
   -- its family stands before
-  root-past : (b : ℕ) (r : Row) (rows : List Row) → m < b → Behind es b r rows → shown m rows ≡ 0
+  root-past : (b : ℕ) (r : Member) (rows : List Member) → m < b → Behind es b r rows → shown m rows ≡ 0
   root-past b r [] l h = refl
   root-past b r (q ∷ rows) l (inl h) = rw (ne-eqb (q .at) m (λ e. omega (arith, rw e at (h .0)))) (root-past b q rows l (h .4))
   root-past b r (q ∷ rows) l (inr h) =
       rw (ne-eqb (q .at) m (λ e. omega (arith, h .1 .from))) (root-past (q .at + 1) q rows (omega (arith, h .1 .from)) (h .4))
 
   -- its family is yet to come
-  root-shown : (b : ℕ) (r : Row) (rows : List Row) → m < length es → b ≤ m → Behind es b r rows → shown m rows ≡ 1
+  root-shown : (b : ℕ) (r : Member) (rows : List Member) → m < length es → b ≤ m → Behind es b r rows → shown m rows ≡ 1
   root-shown b r [] l a h = absurd (h .1 m a l rootless)
   root-shown b r (q ∷ rows) l a (inl h) = rw (ne-eqb (q .at) m (λ e. omega (arith, rw e at (h .0)))) (root-shown b q rows l a (h .4))
   root-shown b r (q ∷ rows) l a (inr h) =
@@ -68,7 +69,7 @@ module _ (es : List ℕ) (m : ℕ) (rootless : elderAt es m ≡ 0) where
 -- ---- an order with an elder stands in as many rows as its elder, each time right behind it
 
 child-shown : (es : List ℕ) → unshared es ≡ true → (m e : ℕ) → m < length es → elderAt es m ≡ e + 1
-    → (b : ℕ) (r : Row) (rows : List Row) → Behind es b r rows → shown m rows ≡ shown e (r ∷ rows)
+    → (b : ℕ) (r : Member) (rows : List Member) → Behind es b r rows → shown m rows ≡ shown e (r ∷ rows)
 child-shown es u m e l c b r [] h = rw (ne-eqb (r .at) e (λ x. h .0 m l (omega arith)))
 child-shown es u m e l c b r (q ∷ rows) (inl h) =
     let up : q .at ≡ m → r .at ≡ e = λ x. omega (arith, rw x at (h .0)) in
@@ -100,7 +101,7 @@ module _ (es : List ℕ) (h : earlier 0 es ≡ true) (u : unshared es ≡ true) 
 -- ---- so there are as many rows as orders
 
 -- in how many rows the first n orders stand
-abbrev tally : ℕ → List Row → ℕ
+abbrev tally : ℕ → List Member → ℕ
 tally zero rows = 0
 tally (suc n) rows = tally n rows + shown n rows
 
@@ -108,11 +109,11 @@ tally-none : (n : ℕ) → tally n [] ≡ 0
 tally-none zero = refl
 tally-none (suc n) = omega (arith, tally-none n)
 
-tally-past : (n : ℕ) (q : Row) (rows : List Row) → n ≤ q .at → tally n (q ∷ rows) ≡ tally n rows
+tally-past : (n : ℕ) (q : Member) (rows : List Member) → n ≤ q .at → tally n (q ∷ rows) ≡ tally n rows
 tally-past zero q rows l = refl
 tally-past (suc n) q rows l = rw (ne-eqb (q .at) n (λ e. omega arith), tally-past n q rows (omega arith))
 
-tally-more : (n : ℕ) (q : Row) (rows : List Row) → q .at < n → tally n (q ∷ rows) ≡ tally n rows + 1
+tally-more : (n : ℕ) (q : Member) (rows : List Member) → q .at < n → tally n (q ∷ rows) ≡ tally n rows + 1
 tally-more zero q rows l = absurd (omega arith)
 tally-more (suc n) q rows l = go (eq-or-lt-of-le l) (tally-more n q rows)
   where
@@ -121,11 +122,11 @@ tally-more (suc n) q rows l = go (eq-or-lt-of-le l) (tally-more n q rows)
     go (inl e) ih = rw (eq-eqb (q .at) n (omega arith)) (omega (arith, tally-past n q rows (omega arith)))
     go (inr o) ih = rw (ne-eqb (q .at) n (λ e. omega arith)) (omega (arith, ih (omega arith)))
 
-tally-inside : (n : ℕ) (rows : List Row) → Inside n rows → tally n rows ≡ length rows
+tally-inside : (n : ℕ) (rows : List Member) → Inside n rows → tally n rows ≡ length rows
 tally-inside n [] h = tally-none n
 tally-inside n (q ∷ rows) h = omega (arith, tally-more n q rows (h .0), tally-inside n rows (h .1))
 
-tally-once : (n : ℕ) (rows : List Row) → ((i : ℕ) → i < n → shown i rows ≡ 1) → tally n rows ≡ n
+tally-once : (n : ℕ) (rows : List Member) → ((i : ℕ) → i < n → shown i rows ≡ 1) → tally n rows ≡ n
 tally-once zero rows h = refl
 tally-once (suc n) rows h = omega (arith, h n (omega arith), tally-once n rows (λ i l. h i (omega arith)))
 

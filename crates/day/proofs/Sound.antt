@@ -20,7 +20,8 @@ use Rattle.order.specs.declared.Order.{Order}
 use Rattle.day.specs.Damage.{eldersOf, undamaged}
 use Rattle.day.specs.Demand3.{tableAfter}
 use Rattle.day.specs.History.{isNew}
-use Rattle.day.specs.Machine.{Table, amend, place, refusalOf, withFigures, newOrder, bookEvent, accept, book}
+use Rattle.day.specs.Machine.{amend, place, refusalOf, withFigures, newOrder, bookEvent, accept, book}
+use Rattle.day.specs.Tables.{Table}
 use Rattle.day.proofs.Admitted.{Admitted, admitted, Spoken, spoken}
 use Rattle.day.proofs.Booking.{book-keeps}
 use Rattle.day.proofs.Figures.{executed-sound, cancelled-sound, broken-sound, passed-sound}

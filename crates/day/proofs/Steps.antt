@@ -18,8 +18,8 @@ use Rattle.order.specs.declared.Order.{Order}
 use Rattle.day.specs.History.{History, isExecution, isBreak, isCancel, isReplace, isMaker, replaces, addIf, sumOf, left}
 use Rattle.day.specs.History.{makers, placeOf, elderOf, orderOf, ordersOf}
 use Rattle.day.specs.Machine.{place, amend, withFigures, withPrice, newOrder, bookEvent}
-use Rattle.day.proofs.KeyTest.{key-self, key-comm}
-use Rattle.day.proofs.Legal.{Follows, Legal, elder-known, apart, unsaid, unknown-sum, unknown-passed, Made, made}
+use Rattle.order.proofs.Sameness.{key-self, key-comm}
+use Rattle.day.proofs.Legal.{Follows, Legal, elder-known, apart, unreplaced, named-known, unknown-sum, unknown-passed, Made, made}
 use Rattle.day.proofs.Lookup.{changed, place-order, place-kept, amend-orders}
 
 -- ---- what is left of a size
@@ -72,30 +72,30 @@ with-price : (t : Bool) (n : ℕ) (o : Order) → cond t (withPrice n o) o ≡ w
 with-price true n o = refl
 with-price false n o = refl
 
-module _ (h : History) (r m : Record) where
+module _ (h : History) (r m : Record) (f : Follows h r) where
   abbrev named : Bool
   named = sameKey (keyOf r) (keyOf m)
 
   executed-order : (t : Trade) → r .event ≡ Executed t
       → changed (keyOf r) (withFigures (λ f. executedBy f (r .contracts))) (orderOf h m) ≡ orderOf (line r ∷ h) m
   executed-order t q =
-      rw (q, key-comm (keyOf m) (keyOf r))
+      rw (q, key-comm (keyOf m) (keyOf r), named-known h r (keyOf m) f (ap isMaker q))
       (with-figures named (λ f. executedBy f (r .contracts)) (orderOf h m) _ (executed-if _ _ _ _ _ named (r .contracts)))
 
   cancelled-order : r .event ≡ Cancelled
       → changed (keyOf r) (withFigures (λ f. cancelledBy f (r .contracts))) (orderOf h m) ≡ orderOf (line r ∷ h) m
   cancelled-order q =
-      rw (q, key-comm (keyOf m) (keyOf r))
+      rw (q, key-comm (keyOf m) (keyOf r), named-known h r (keyOf m) f (ap isMaker q))
       (with-figures named (λ f. cancelledBy f (r .contracts)) (orderOf h m) _ (cancelled-if _ _ _ _ _ named (r .contracts)))
 
   broken-order : (t : Trade) → r .event ≡ Broken t
       → changed (keyOf r) (withFigures (λ f. brokenBy f (r .contracts))) (orderOf h m) ≡ orderOf (line r ∷ h) m
   broken-order t q =
-      rw (q, key-comm (keyOf m) (keyOf r))
+      rw (q, key-comm (keyOf m) (keyOf r), named-known h r (keyOf m) f (ap isMaker q))
       (with-figures named (λ f. brokenBy f (r .contracts)) (orderOf h m) _ (broken-if _ _ _ _ _ named (r .contracts)))
 
   repriced-order : r .event ≡ Repriced → changed (keyOf r) (withPrice (r .price)) (orderOf h m) ≡ orderOf (line r ∷ h) m
-  repriced-order q = rw (q, key-comm (keyOf m) (keyOf r)) (with-price named (r .price) (orderOf h m))
+  repriced-order q = rw (q, key-comm (keyOf m) (keyOf r), named-known h r (keyOf m) f (ap isMaker q)) (with-price named (r .price) (orderOf h m))
 
   elder-kept : Legal h → Made h m → elderOf m (makers h ++ (r ∷ [])) ≡ elderOf m (makers h)
   elder-kept l d = go (isReplace (m .event)) refl
@@ -106,9 +106,9 @@ module _ (h : History) (r m : Record) where
       go false q = refl
 
   -- A and U, of an order made before
-  older-order : Legal h → Follows h r → isMaker (r .event) ≡ true → Made h m
+  older-order : Legal h → isMaker (r .event) ≡ true → Made h m
       → cond (replaces (keyOf m) r) (withFigures passedOn (orderOf h m)) (orderOf h m) ≡ orderOf (line r ∷ h) m
-  older-order l f q d =
+  older-order l q d =
       let k = keyOf m in
       rw (q, apart h k (keyOf r) (d .0) (f .fresh q) .1, elder-kept l d)
       (simp and-false (with-figures (replaces k r) passedOn (orderOf h m) _ (passed-if _ _ _ _ _ (replaces k r))))
@@ -119,8 +119,8 @@ new-order : (h : History) (r : Record) → Legal h → Follows h r → isMaker (
 new-order h r l f q =
     let k = keyOf r in
     let n = f .fresh q in
-    let none : (kind : Event → Bool) → sumOf kind k h ≡ 0 = λ kind. unknown-sum kind k h l n in
-    rw (unsaid h r k f n .1, q, key-self k, none isExecution, none isBreak, none isCancel, unknown-passed k h l n) (simp (and-false, sub-zero))
+    let none : (kind : Event → Bool) → sumOf kind k h ≡ 0 = λ kind. unknown-sum kind k h n in
+    rw (unreplaced h r k f n, q, key-self k, none isExecution, none isBreak, none isCancel, unknown-passed k h l n) (simp (and-false, sub-zero))
 
 -- ---- all orders
 
@@ -149,7 +149,7 @@ module _ (h : History) (r : Record) (l : Legal h) (f : Follows h r) where
       let more : makers (line r ∷ h) ≡ makers h ++ (r ∷ []) = rw q in
       let g = orderOf (line r ∷ h) in
       ap₂ (λ (os : List Order) (o : Order). os ++ (o ∷ []))
-      (map-same c g (makers h) (λ m i. e m ∙ older-order h r m l f q (made h m l i)))
+      (map-same c g (makers h) (λ m i. e m ∙ older-order h r m f l q (made h m l i)))
       (ap (newOrder r) n ∙ new-order h r l f q)
       ∙ sym (map-append g (makers h) (r ∷ []))
       ∙ ap (map g) (sym more)
@@ -159,13 +159,13 @@ module _ (h : History) (r : Record) (l : Legal h) (f : Follows h r) where
     where
       go : (e : Event) → r .event ≡ e → bookEvent e r (ordersOf h) ≡ ordersOf (line r ∷ h)
       go Accepted q = appended (orderOf h) 0 (ap isMaker q) (λ m. rw q) (rw q)
-      go (Executed t) q = amended _ _ (ap isMaker q) (λ m. executed-order h r m t q)
-      go Cancelled q = amended _ _ (ap isMaker q) (λ m. cancelled-order h r m q)
-      go (Broken t) q = amended _ _ (ap isMaker q) (λ m. broken-order h r m t q)
+      go (Executed t) q = amended _ _ (ap isMaker q) (λ m. executed-order h r m f t q)
+      go Cancelled q = amended _ _ (ap isMaker q) (λ m. cancelled-order h r m f q)
+      go (Broken t) q = amended _ _ (ap isMaker q) (λ m. broken-order h r m f t q)
       go Replaced q =
           let k = elderKeyOf r in
           let elder = place k (ordersOf h) in
           ap (λ (os : List Order). os ++ (newOrder r elder ∷ [])) (amend-orders k (withFigures passedOn) h l)
           ∙ appended _ elder (ap isMaker q) (λ m. rw (q, key-comm (keyOf m) k))
           (rw (ap isReplace q) (place-order k h ∙ sym (place-kept k r h l (elder-known h r f (ap isReplace q)))))
-      go Repriced q = amended _ _ (ap isMaker q) (λ m. repriced-order h r m q)
+      go Repriced q = amended _ _ (ap isMaker q) (λ m. repriced-order h r m f q)

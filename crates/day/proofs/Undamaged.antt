@@ -17,7 +17,8 @@ use Rattle.order.specs.declared.Figures.{Figures}
 use Rattle.order.specs.declared.Key.{Key}
 use Rattle.order.specs.declared.Order.{Order}
 use Rattle.day.specs.Damage.{lawfulKey, lawfulSeries, soundFigures, soundOrder, allSound, eldersOf, earlier, unshared, openAt, closed, undamaged}
-use Rattle.day.specs.Machine.{Table, amend, withFigures, withPrice}
+use Rattle.day.specs.Machine.{amend, withFigures, withPrice}
+use Rattle.day.specs.Tables.{Table}
 use Rattle.day.proofs.Figures.{figures-sound, sound-figures}
 use Rattle.day.proofs.Orders.{Finds, finds-sound, length-amend, map-amend, amend-sound, amend-shut, length-elders}
 use Rattle.day.proofs.Orders.{still-closed, earlier-behind, unshared-behind, closed-behind, sound-behind, openAt-behind}

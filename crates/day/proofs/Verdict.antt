@@ -12,7 +12,8 @@ use Rattle.layout.specs.Line.{Said, endOfDay, line, read}
 use Rattle.layout.specs.declared.Record.{Record}
 use Rattle.day.specs.Demand3.{joined}
 use Rattle.day.specs.History.{History, isOver}
-use Rattle.day.specs.Machine.{Table, refusalOf, accept, Booked, bookSaid, bookRead, book}
+use Rattle.day.specs.Machine.{refusalOf, accept, bookSaid, bookRead, book}
+use Rattle.day.specs.Tables.{Table, Booked}
 use Rattle.day.specs.Refusals.{rules, NoneOf, FirstOf}
 use Rattle.day.proofs.Chain.{Judged, answerBy}
 use Rattle.day.proofs.Checks.{said-judged}
@@ -63,7 +64,7 @@ module _ (limit : ℕ) (h : History) (l : Legal h) (p : List ℕ) where
       }
 
   -- what is accepted joins the history
-  pub next : let b = book limit (dayOf h) p in let k = joined (book limit) (b .answer) (read p) h in Legal k × (b .table ≡ dayOf k)
+  pub next : let b = book limit (dayOf h) p in let k = joined (b .answer) (read p) h in Legal k × (b .table ≡ dayOf k)
   next = go (read p) refl
     where
       accepted : (x : Said) → read p ≡ value x → NoneOf (rules limit h p) → Legal (x ∷ h) × (accept x (dayOf h) ≡ dayOf (x ∷ h))
@@ -74,12 +75,12 @@ module _ (limit : ℕ) (h : History) (l : Legal h) (p : List ℕ) where
 
       said : (x : Said) → read p ≡ value x → (t : Bool) → eqb (refusalOf limit (dayOf h) x) 0 ≡ t
           → let b = bookIf t (refusalOf limit (dayOf h) x) (dayOf h) x in
-          let k = joined (book limit) (b .answer) (value x) h in
+          let k = joined (b .answer) (value x) h in
           Legal k × (b .table ≡ dayOf k)
       said x e true q = accepted x e (rw q at (said-judged limit h l p x e))
       said x e false q = (l, refl)
 
       go : (a : Answer Said) → read p ≡ a
-          → let b = bookRead limit (dayOf h) a in let k = joined (book limit) (b .answer) a h in Legal k × (b .table ≡ dayOf k)
+          → let b = bookRead limit (dayOf h) a in let k = joined (b .answer) a h in Legal k × (b .table ≡ dayOf k)
       go (value x) e = said x e (eqb (refusalOf limit (dayOf h) x) 0) refl
       go (refused n f) e = (l, refl)

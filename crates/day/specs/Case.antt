@@ -9,12 +9,9 @@ use Rattle.layout.specs.declared.Event.{Event}
 use Rattle.layout.specs.declared.Event.the-variants.{Accepted, Executed, Cancelled, Broken, Replaced}
 use Rattle.layout.specs.declared.Record.{Record}
 use Rattle.layout.specs.declared.Trade.{Trade}
-use Rattle.order.specs.declared.Figures.{Figures}
-use Rattle.order.specs.declared.Key.{Key}
-use Rattle.order.specs.declared.Order.{Order}
 use Rattle.day.specs.Demand3.{tableAfter, answerTo, historyAfter}
-use Rattle.day.specs.Listing.{row, sheetOf}
-use Rattle.day.specs.Machine.{Table, Booked}
+use Rattle.day.specs.Listing.{Row, Sheet}
+use Rattle.day.specs.Tables.{Table, Booked}
 
 -- a line: five of its fields vary, "all else lawful"
 abbrev pub sample : Event → (source token replaced : List ℕ) → ℕ → Record
@@ -84,22 +81,25 @@ seventh = replacing 1 2 50
 abbrev pub wholeCase : List (List ℕ)
 wholeCase = crlf ∷ lineOf seventh ∷ map lineOf sixLines
 
--- what a row shows of its order
-abbrev pub columns : Order → Figures × Key
-columns o = (o .figures, o .key)
+-- a row of an order of ABCD01 that T and a digit names
+abbrev pub showing : (family rank at size executed broken cancelled passed left d : ℕ) → Row
+showing f k i s e b c p l d =
+    record {
+      member = record { family = f; rank = k; at = i };
+      figures = record { size = s; executed = e; broken = b; cancelled = c; passed = p; «open» = l };
+      key = record { source = host 1; token = token d };
+    }
 
-abbrev pub showing : (size executed broken cancelled passed left d : ℕ) → Figures × Key
-showing s e b c p l d =
-    (record { size = s; executed = e; broken = b; cancelled = c; passed = p; «open» = l }, record { source = host 1; token = token d })
-
-pub record WholeCase (book : Table → List ℕ → Booked) : Type 0 where
+pub record WholeCase (book : Table → List ℕ → Booked) (sheet : Table → Sheet) : Type 0 where
   -- "line 7 refused 7"
   pub line-7 : answerTo book (map lineOf sixLines) (lineOf seventh) ≡ refused 7 0
   -- and no other
   pub others : historyAfter book wholeCase ≡ endOfDay ∷ map line sixLines
   -- "orders 3 families 2", then 1.1, 1.2 and 2.1
-  pub sheet : sheetOf (tableAfter book wholeCase)
-      ≡ record { orders = 3; families = 2; rows = row 1 1 0 ∷ row 1 2 1 ∷ row 2 1 2 ∷ [] }
-  -- "100 30 30 0 70 0 ABCD01 T1", "60 0 0 10 0 50 ABCD01 T2", "5 0 0 0 0 5 ABCD01 T9"
-  pub orders : map columns (tableAfter book wholeCase .orders)
-      ≡ showing 100 30 30 0 70 0 1 ∷ showing 60 0 0 10 0 50 2 ∷ showing 5 0 0 0 0 5 9 ∷ []
+  pub shows : sheet (tableAfter book wholeCase)
+      ≡ record {
+        orders = 3;
+        families = 2;
+        -- "100 30 30 0 70 0 ABCD01 T1", "60 0 0 10 0 50 ABCD01 T2", "5 0 0 0 0 5 ABCD01 T9"
+        rows = showing 1 1 0 100 30 30 0 70 0 1 ∷ showing 1 2 1 60 0 0 10 0 50 2 ∷ showing 2 1 2 5 0 0 0 0 5 9 ∷ [];
+      }

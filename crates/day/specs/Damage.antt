@@ -13,7 +13,7 @@ use Rattle.order.specs.declared.Figures.{Figures}
 use Rattle.order.specs.declared.Key.{Key}
 use Rattle.order.specs.declared.Order.{Order}
 use Rattle.order.specs.declared.Series.{Series}
-use Rattle.day.specs.Machine.{Table}
+use Rattle.day.specs.Tables.{Table}
 
 -- fields 10 and 11
 abbrev pub lawfulKey : Key → Bool

@@ -12,12 +12,22 @@ use Rattle.layout.specs.declared.Record.{Record}
 use Rattle.order.specs.Names.{keyOf, sameKey}
 use Rattle.order.specs.declared.Order.{Order}
 use Rattle.day.specs.Damage.{undamaged, eldersOf}
-use Rattle.day.specs.History.{History, ordersOf, isOver, known, countOf, isNew, isMaker}
-use Rattle.day.specs.Listing.{Row, Sheet, Listed, shown, elderAt}
-use Rattle.day.specs.Machine.{Table, empty, Booked}
+use Rattle.day.specs.History.{History, figuresOf, ordersOf, isOver, known, countOf, isNew, isMaker}
+use Rattle.day.specs.Listing.{Row, Sheet, membersOf, Each, Listed, shown, elderAt}
 use Rattle.day.specs.Refusals.{rules, NoneOf, FirstOf}
+use Rattle.day.specs.Tables.{Table, empty, Booked}
 
 -- ---- "Start from an empty table and feed it lines, good or bad, in any sequence." The pieces stand latest first
+
+-- a line that was accepted joins the history
+abbrev pub joined : Answer (Unit {0}) → Answer Said → History → History
+joined (value u) (value x) h = x ∷ h
+joined (value u) (refused n f) h = h
+joined (refused n f) said h = h
+
+abbrev pub kept : Answer (Unit {0}) → List ℕ → List (List ℕ) → List (List ℕ)
+kept (value u) p ps = p ∷ ps
+kept (refused n f) p ps = ps
 
 module _ (book : Table → List ℕ → Booked) where
   abbrev pub tableAfter : List (List ℕ) → Table
@@ -27,20 +37,10 @@ module _ (book : Table → List ℕ → Booked) where
   abbrev pub answerTo : List (List ℕ) → List ℕ → Answer (Unit {0})
   answerTo ps p = book (tableAfter ps) p .answer
 
-  -- a line that was accepted joins the history
-  abbrev pub joined : Answer (Unit {0}) → Answer Said → History → History
-  joined (value u) (value x) h = x ∷ h
-  joined (value u) (refused n f) h = h
-  joined (refused n f) said h = h
-
   -- the accepted lines
   abbrev pub historyAfter : List (List ℕ) → History
   historyAfter [] = []
   historyAfter (p ∷ ps) = joined (answerTo ps p) (read p) (historyAfter ps)
-
-  abbrev pub kept : Answer (Unit {0}) → List ℕ → List (List ℕ) → List (List ℕ)
-  kept (value u) p ps = p ∷ ps
-  kept (refused n f) p ps = ps
 
   -- the accepted ones alone
   abbrev pub acceptedOf : List (List ℕ) → List (List ℕ)
@@ -60,30 +60,52 @@ pub record Descent (os : List Order) : Type 0 where
   pub one-key : (none : Order) (i j : ℕ) → i < length os → j < length os
       → sameKey (getD os i none .key) (getD os j none .key) ≡ true → i ≡ j
 
+-- what is answered to a piece after the accepted lines h
+pub record IsAnswer (limit : ℕ) (h : History) (p : List ℕ) (a : Answer (Unit {0})) : Type 0 where
+  -- accepted exactly when no refusal applies
+  pub accepted : (a ≡ value tt) ↔ NoneOf (rules limit h p)
+  -- else refused by the first that applies, and with a 3 by the first field
+  pub refused-first : (n : ℕ) → ((f : ℕ) × (a ≡ refused n f)) ↔ FirstOf (rules limit h p) n
+  pub refused-field : (f : ℕ) → (a ≡ refused 3 f) ↔ (read p ≡ refused 3 f)
+  -- 01: "Each answers its number (3 also the field) and no value": any other comes with no field
+  pub refused-plain : (n f : ℕ) → a ≡ refused n f → (n ≡ 3 → ⊥) → f ≡ 0
+
+-- a row shows the order at its place: its key, and of that key what the accepted lines say
+pub record Tells (h : History) (q : Row) : Type 0 where
+  pub key : (none : Order) → q .key ≡ getD (ordersOf h) (q .member .at) none .key
+  pub figures : q .figures ≡ figuresOf (q .key) h
+
+-- size equals executed plus cancelled plus passed on plus open
+abbrev pub AddsUp : Row → Type 0
+AddsUp q = let f = q .figures in f .size ≡ f .executed + f .cancelled + f .passed + f .«open»
+
+-- the sheet that a history asks for: N counts accepted A and U, F accepted A; families by the acceptance of their first order, each from
+-- eldest to youngest; each row as the lines say
+pub record IsSheet (h : History) (s : Sheet) : Type 0 where
+  pub orders : s .orders ≡ countOf isMaker h
+  pub families : s .families ≡ countOf isNew h
+  pub listed : Listed (eldersOf (ordersOf h)) (membersOf (s .rows))
+  pub told : Each (Tells h) (s .rows)
+
 pub record Demand3 (limit : ℕ) (book : Table → List ℕ → Booked) (sheet : Table → Sheet) : Type 0 where
   -- "A line is accepted exactly when no refusal of the build paper applies to it after the lines accepted before it."
-  pub accepted : (ps : List (List ℕ)) (p : List ℕ) → (answerTo book ps p ≡ value tt) ↔ NoneOf (rules limit (historyAfter book ps) p)
-  -- else it is refused by the first that applies, and by the first field with a 3
-  pub refused-first : (ps : List (List ℕ)) (p : List ℕ) (n : ℕ)
-      → ((f : ℕ) × (answerTo book ps p ≡ refused n f)) ↔ FirstOf (rules limit (historyAfter book ps) p) n
-  pub refused-field : (ps : List (List ℕ)) (p : List ℕ) (f : ℕ) → (answerTo book ps p ≡ refused 3 f) ↔ (read p ≡ refused 3 f)
-  -- 01: "Each answers its number (3 also the field) and no value": any other comes with no field
-  pub refused-plain : (ps : List (List ℕ)) (p : List ℕ) (n f : ℕ) → answerTo book ps p ≡ refused n f → (n ≡ 3 → ⊥) → f ≡ 0
+  pub answers : (ps : List (List ℕ)) (p : List ℕ) → IsAnswer limit (historyAfter book ps) p (answerTo book ps p)
   -- "the sheet shows every accepted order once and no other"
-  pub each-once : (ps : List (List ℕ)) (i : ℕ) → i < length (ordersOf (historyAfter book ps)) → shown i (sheet (tableAfter book ps) .rows) ≡ 1
-  pub no-other : (ps : List (List ℕ)) (i : ℕ) → length (ordersOf (historyAfter book ps)) ≤ i → shown i (sheet (tableAfter book ps) .rows) ≡ 0
-  -- "families by the acceptance of their first order, each from eldest to youngest"
-  pub in-order : (ps : List (List ℕ)) → Listed (eldersOf (ordersOf (historyAfter book ps))) (sheet (tableAfter book ps) .rows)
-  -- and nothing else is so listed
-  pub only-so : (ps : List (List ℕ)) (rows : List Row) → Listed (eldersOf (ordersOf (historyAfter book ps))) rows
-      → rows ≡ sheet (tableAfter book ps) .rows
-  -- N counts accepted A and U, F accepted A
-  pub counts-orders : (ps : List (List ℕ)) → sheet (tableAfter book ps) .orders ≡ countOf isMaker (historyAfter book ps)
-  pub counts-families : (ps : List (List ℕ)) → sheet (tableAfter book ps) .families ≡ countOf isNew (historyAfter book ps)
-  -- "Every figure equals what the accepted lines naming that order say": order by order, figure by figure
-  pub figures : (ps : List (List ℕ)) → tableAfter book ps .orders ≡ ordersOf (historyAfter book ps)
+  pub each-once : (ps : List (List ℕ)) (i : ℕ) → i < length (ordersOf (historyAfter book ps))
+      → shown i (membersOf (sheet (tableAfter book ps) .rows)) ≡ 1
+  pub no-other : (ps : List (List ℕ)) (i : ℕ) → length (ordersOf (historyAfter book ps)) ≤ i
+      → shown i (membersOf (sheet (tableAfter book ps) .rows)) ≡ 0
+  -- "families by the acceptance of their first order, each from eldest to youngest", N and F counted; "Every figure equals what the accepted lines naming
+  -- that order say": row by row, key and six figures
+  pub sheet-so : (ps : List (List ℕ)) → IsSheet (historyAfter book ps) (sheet (tableAfter book ps))
+  -- and no other sheet is so
+  pub only-so : (ps : List (List ℕ)) (s : Sheet) → IsSheet (historyAfter book ps) s → s ≡ sheet (tableAfter book ps)
+  -- "and size equals executed plus cancelled plus passed on plus open"
+  pub adds-up : (ps : List (List ℕ)) → Each AddsUp (sheet (tableAfter book ps) .rows)
+  -- the table too holds the orders that the accepted lines say, and whether the day is over
+  pub orders : (ps : List (List ℕ)) → tableAfter book ps .orders ≡ ordersOf (historyAfter book ps)
   pub mark : (ps : List (List ℕ)) → tableAfter book ps .over ≡ isOver (historyAfter book ps)
-  -- "and size equals executed plus cancelled plus passed on plus open"; 01: every table reached from empty is undamaged
+  -- 01: "Every table reached from empty is undamaged."
   pub sound : (ps : List (List ℕ)) → undamaged limit (tableAfter book ps) ≡ true
   pub descent : (ps : List (List ℕ)) → Descent (tableAfter book ps .orders)
   -- "Refused lines count for nothing.": the accepted ones alone reach the same table, and all of them are accepted again

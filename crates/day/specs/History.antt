@@ -3,9 +3,10 @@
 use Prim.Native.Nat.{ℕ, zero, suc, _+_, _-_}
 use mathlib.Core.Bool.{Bool, true, false, cond, not, _&&_, _||_}
 use mathlib.Core.List.{List, [], _∷_, _++_, map}
+use lib.Dec.{eqb}
 use Rattle.layout.specs.Line.{Said, endOfDay, line}
+use Rattle.layout.specs.Records.{typeOf}
 use Rattle.layout.specs.declared.Event.{Event}
-use Rattle.layout.specs.declared.Event.the-variants.{Accepted, Executed, Cancelled, Broken, Replaced, Repriced}
 use Rattle.layout.specs.declared.Record.{Record}
 use Rattle.order.specs.Names.{keyOf, elderKeyOf, seriesOf, sameKey}
 use Rattle.order.specs.declared.Figures.{Figures}
@@ -15,55 +16,31 @@ use Rattle.order.specs.declared.Order.{Order}
 abbrev pub History : Type 0
 History = List Said
 
--- ---- the six events
+-- ---- the six events, by the letter of their line
 
+-- A
 abbrev pub isNew : Event → Bool
-isNew Accepted = true
-isNew (Executed t) = false
-isNew Cancelled = false
-isNew (Broken t) = false
-isNew Replaced = false
-isNew Repriced = false
+isNew e = eqb (typeOf e) 65
 
+-- E
 abbrev pub isExecution : Event → Bool
-isExecution Accepted = false
-isExecution (Executed t) = true
-isExecution Cancelled = false
-isExecution (Broken t) = false
-isExecution Replaced = false
-isExecution Repriced = false
+isExecution e = eqb (typeOf e) 69
 
+-- X
 abbrev pub isCancel : Event → Bool
-isCancel Accepted = false
-isCancel (Executed t) = false
-isCancel Cancelled = true
-isCancel (Broken t) = false
-isCancel Replaced = false
-isCancel Repriced = false
+isCancel e = eqb (typeOf e) 88
 
+-- C
 abbrev pub isBreak : Event → Bool
-isBreak Accepted = false
-isBreak (Executed t) = false
-isBreak Cancelled = false
-isBreak (Broken t) = true
-isBreak Replaced = false
-isBreak Repriced = false
+isBreak e = eqb (typeOf e) 67
 
+-- U
 abbrev pub isReplace : Event → Bool
-isReplace Accepted = false
-isReplace (Executed t) = false
-isReplace Cancelled = false
-isReplace (Broken t) = false
-isReplace Replaced = true
-isReplace Repriced = false
+isReplace e = eqb (typeOf e) 85
 
+-- R
 abbrev pub isReprice : Event → Bool
-isReprice Accepted = false
-isReprice (Executed t) = false
-isReprice Cancelled = false
-isReprice (Broken t) = false
-isReprice Replaced = false
-isReprice Repriced = true
+isReprice e = eqb (typeOf e) 82
 
 -- A and U make an order
 abbrev pub isMaker : Event → Bool
@@ -75,9 +52,15 @@ isMaker e = isNew e || isReplace e
 abbrev pub makes : Key → Record → Bool
 makes k r = isMaker (r .event) && sameKey (keyOf r) k
 
--- E, C, X and R that name it
-abbrev pub about : Key → Record → Bool
-about k r = not (isMaker (r .event)) && sameKey (keyOf r) k
+-- an accepted line made an order with this key
+abbrev pub known : Key → History → Bool
+known k [] = false
+known k (endOfDay ∷ h) = known k h
+known k (line r ∷ h) = makes k r || known k h
+
+-- E, C, X and R that name it, where h was accepted before: an order that the line could find
+abbrev pub about : Key → History → Record → Bool
+about k h r = not (isMaker (r .event)) && sameKey (keyOf r) k && known k h
 
 -- the U that replaces it
 abbrev pub replaces : Key → Record → Bool
@@ -93,7 +76,7 @@ addIf false n s = s
 abbrev pub sumOf : (Event → Bool) → Key → History → ℕ
 sumOf kind k [] = 0
 sumOf kind k (endOfDay ∷ h) = sumOf kind k h
-sumOf kind k (line r ∷ h) = addIf (kind (r .event) && about k r) (r .contracts) (sumOf kind k h)
+sumOf kind k (line r ∷ h) = addIf (kind (r .event) && about k h r) (r .contracts) (sumOf kind k h)
 
 -- E: n goes to executed
 abbrev pub executedOf : Key → History → ℕ
@@ -146,7 +129,7 @@ figuresOf k h =
 abbrev pub priceOf : Key → History → ℕ
 priceOf k [] = 0
 priceOf k (endOfDay ∷ h) = priceOf k h
-priceOf k (line r ∷ h) = cond (makes k r || isReprice (r .event) && about k r) (r .price) (priceOf k h)
+priceOf k (line r ∷ h) = cond (makes k r || isReprice (r .event) && about k h r) (r .price) (priceOf k h)
 
 -- ---- the orders of the day
 
@@ -182,12 +165,6 @@ orderOf h r =
 
 abbrev pub ordersOf : History → List Order
 ordersOf h = map (orderOf h) (makers h)
-
--- an accepted line made an order with this key
-abbrev pub known : Key → History → Bool
-known k [] = false
-known k (endOfDay ∷ h) = known k h
-known k (line r ∷ h) = makes k r || known k h
 
 -- the line that made it: the latest that makes an order with this key (refusal 7 leaves no second one), or `none` where no line does
 abbrev pub making : Key → History → Record → Record

@@ -5,4 +5,7 @@ pub mod History
 pub mod Listing
 pub mod Machine
 pub mod Refusals
+pub mod Settled
+pub mod Tables
+pub mod Walk
 pub mod Wrong

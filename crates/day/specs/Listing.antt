@@ -1,57 +1,41 @@
--- 01, The sheet: the listing walks down a family to its youngest order, then over to the next family.
-use Prim.Native.Nat.{ℕ, zero, suc, _+_, _≤_, _<_}
+-- 01, The sheet: a row, and which listing is lawful: down a family to its youngest order, then over to the next family.
+use Prim.Native.Nat.{ℕ, _+_, _≤_, _<_}
 use mathlib.Core.Path.{_≡_}
-use mathlib.Core.Bool.{cond}
-use mathlib.Core.List.{List, [], _∷_, _++_}
+use mathlib.Core.List.{List, [], _∷_, map}
 use mathlib.Core.Logic.{_⊎_}
 use lib.Dec.{eqb}
 use lib.ListN.{length, getD}
-use Rattle.day.specs.Damage.{eldersOf}
+use Rattle.order.specs.declared.Figures.{Figures}
+use Rattle.order.specs.declared.Key.{Key}
 use Rattle.day.specs.History.{addIf}
-use Rattle.day.specs.Machine.{Table}
 
--- the order at a place, with its family and its place in it, both counted from 1
-pub record Row : Type 0 where
+-- a member of a family: the family and its place in it, both counted from 1, and where the order stands in order of acceptance, counted from 0
+pub record Member : Type 0 where
   pub family : ℕ
   pub rank : ℕ
   pub at : ℕ
 
+-- all that is printed of it: family and place, the six figures, Source and token
+pub record Row : Type 0 where
+  pub member : Member
+  pub figures : Figures
+  pub key : Key
+
+-- `orders N families F`, then the rows
 pub record Sheet : Type 0 where
   pub orders : ℕ
   pub families : ℕ
   pub rows : List Row
 
-abbrev pub row : ℕ → ℕ → ℕ → Row
-row f k i = record { family = f; rank = k; at = i }
+abbrev pub membersOf : List Row → List Member
+membersOf rows = map (λ (q : Row). q .member) rows
 
--- ---- as it is made. Elders are numbers from 1, and 0 is none; a younger order is always later, so one pass forward finds it
+-- P holds of each row
+abbrev pub Each : (Row → Type 0) → List Row → Type 0
+Each P [] = Unit {0}
+Each P (q ∷ rows) = P q × Each P rows
 
--- those below the order at i, in the list of elders from place j on
-abbrev pub below : ℕ → ℕ → ℕ → ℕ → List ℕ → List Row
-below f k i j [] = []
-below f k i j (e ∷ es) = cond (eqb e (i + 1)) (row f (k + 1) j ∷ below f (k + 1) j (j + 1) es) (below f k i (j + 1) es)
-
--- a family for each order from place i on that has no elder, the first of them numbered f
-abbrev pub families : ℕ → ℕ → List ℕ → List Row
-families f i [] = []
-families f i (zero ∷ es) = (row f 1 i ∷ below f 1 i (i + 1) es) ++ families (f + 1) (i + 1) es
-families f i (suc e ∷ es) = families f (i + 1) es
-
--- how many have no elder
-abbrev pub rootCount : List ℕ → ℕ
-rootCount [] = 0
-rootCount (zero ∷ es) = rootCount es + 1
-rootCount (suc e ∷ es) = rootCount es
-
-abbrev pub sheetOf : Table → Sheet
-sheetOf t =
-    record {
-      orders = length (t .orders);
-      families = rootCount (eldersOf (t .orders));
-      rows = families 1 0 (eldersOf (t .orders));
-    }
-
--- ---- as it is described
+-- ---- which order stands behind which. Elders are numbers from 1, and 0 is none
 
 abbrev pub elderAt : List ℕ → ℕ → ℕ
 elderAt es i = getD es i 0
@@ -70,19 +54,19 @@ pub record NextRoot (es : List ℕ) (b i : ℕ) : Type 0 where
 abbrev pub NoRoot : List ℕ → ℕ → Type 0
 NoRoot es b = (j : ℕ) → b ≤ j → j < length es → elderAt es j ≡ 0 → ⊥
 
--- what may stand behind a row of the family whose first order is at place b - 1
-abbrev pub Behind : List ℕ → ℕ → Row → List Row → Type 0
+-- what may stand behind a member of the family whose first order is at place b - 1
+abbrev pub Behind : List ℕ → ℕ → Member → List Member → Type 0
 Behind es b r [] = Youngest es (r .at) × NoRoot es b
-Behind es b r (q ∷ rows) =
-    ((elderAt es (q .at) ≡ r .at + 1) × (q .at < length es) × (q .family ≡ r .family) × (q .rank ≡ r .rank + 1) × Behind es b q rows)
-    ⊎ (Youngest es (r .at) × NextRoot es b (q .at) × (q .family ≡ r .family + 1) × (q .rank ≡ 1) × Behind es (q .at + 1) q rows)
+Behind es b r (q ∷ members) =
+    ((elderAt es (q .at) ≡ r .at + 1) × (q .at < length es) × (q .family ≡ r .family) × (q .rank ≡ r .rank + 1) × Behind es b q members)
+    ⊎ (Youngest es (r .at) × NextRoot es b (q .at) × (q .family ≡ r .family + 1) × (q .rank ≡ 1) × Behind es (q .at + 1) q members)
 
 -- families by the place of their first order, each from eldest to youngest
-abbrev pub Listed : List ℕ → List Row → Type 0
+abbrev pub Listed : List ℕ → List Member → Type 0
 Listed es [] = NoRoot es 0
-Listed es (q ∷ rows) = NextRoot es 0 (q .at) × (q .family ≡ 1) × (q .rank ≡ 1) × Behind es (q .at + 1) q rows
+Listed es (q ∷ members) = NextRoot es 0 (q .at) × (q .family ≡ 1) × (q .rank ≡ 1) × Behind es (q .at + 1) q members
 
 -- in how many rows the order at i stands
-abbrev pub shown : ℕ → List Row → ℕ
+abbrev pub shown : ℕ → List Member → ℕ
 shown i [] = 0
-shown i (q ∷ rows) = addIf (eqb (q .at) i) 1 (shown i rows)
+shown i (q ∷ members) = addIf (eqb (q .at) i) 1 (shown i members)

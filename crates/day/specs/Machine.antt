@@ -1,4 +1,4 @@
--- The state machine of the day: a table of orders in order of acceptance, and booking one piece.
+-- The state machine of the day: how a piece is booked. Nobody has to believe this file: demand 3 fixes what it may answer.
 use Prim.Native.Nat.{ℕ, _-_}
 use mathlib.Core.Bool.{Bool, true, false, cond, not, _&&_, _||_}
 use mathlib.Core.List.{List, [], _∷_, _++_}
@@ -16,13 +16,7 @@ use Rattle.order.specs.declared.Key.{Key}
 use Rattle.order.specs.declared.Order.{Order}
 use Rattle.day.specs.History.{isNew, isExecution, isCancel, isBreak, isReplace, isReprice, isMaker, oneMore}
 use Rattle.day.specs.Refusals.{subject}
-
-pub record Table : Type 0 where
-  pub orders : List Order
-  pub over : Bool
-
-abbrev pub empty : Table
-empty = record { orders = []; over = false }
+use Rattle.day.specs.Tables.{Table, Booked}
 
 pub data Found : Type 0 where
   nobody : Found
@@ -111,10 +105,6 @@ accept endOfDay t = record { orders = t .orders; over = true }
 accept (line r) t = record { orders = bookEvent (r .event) r (t .orders); over = t .over }
 
 -- ---- booking a piece
-
-pub record Booked : Type 0 where
-  pub table : Table
-  pub answer : Answer (Unit {0})
 
 abbrev pub bookSaid : ℕ → Table → Said → Booked
 bookSaid limit t x =

@@ -1,15 +1,14 @@
 -- 01, Refusals by number, 1 to 3 and 6 to 12: each as a proposition about the accepted lines and the piece at hand.
 use Prim.Native.Nat.{ℕ, _-_, _≤_, _<_}
 use mathlib.Core.Path.{_≡_}
-use mathlib.Core.Bool.{Bool, true, false, cond, _&&_, _||_}
+use mathlib.Core.Bool.{true, false, cond, _||_}
 use mathlib.Core.List.{List, [], _∷_}
 use mathlib.Core.Logic.{_⊎_}
-use lib.Dec.{eqb}
 use lib.ListN.{length}
 use Rattle.refusal.specs.Answer.{value, refused}
 use Rattle.layout.specs.Line.{Said, endOfDay, line, read}
 use Rattle.layout.specs.declared.Record.{Record}
-use Rattle.order.specs.Names.{keyOf, elderKeyOf, seriesOf, sameSeries}
+use Rattle.order.specs.Names.{keyOf, elderKeyOf, seriesOf}
 use Rattle.order.specs.declared.Key.{Key}
 use Rattle.day.specs.History.{History, isNew, isExecution, isCancel, isBreak, isReplace, isReprice, isMaker, known, making, makers, isOver, executedOf, brokenOf, openOf}
 
@@ -21,8 +20,9 @@ subject r = cond (isReplace (r .event)) (elderKeyOf r) (keyOf r)
 abbrev pub OfOrder : History → Record → Type 0 → Type 0
 OfOrder h r P = (isNew (r .event) ≡ false) × (known (subject r) h ≡ true) × P
 
-abbrev pub sameAs : Record → Record → Bool
-sameAs m r = eqb (m .side) (r .side) && sameSeries (seriesOf m) (seriesOf r)
+-- one side and one series
+abbrev pub Alike : Record → Record → Type 0
+Alike m r = (m .side ≡ r .side) × (seriesOf m ≡ seriesOf r)
 
 -- "end of day was booked before"
 abbrev pub DayOver : History → Said → Type 0
@@ -41,7 +41,7 @@ UnknownKey h (line r) = (isNew (r .event) ≡ false) × (known (subject r) h ≡
 -- "E C X R U: side or series differs from that order's (for U, the elder's)"
 abbrev pub OtherSeries : History → Said → Type 0
 OtherSeries h endOfDay = ⊥
-OtherSeries h (line r) = OfOrder h r (sameAs (making (subject r) h r) r ≡ false)
+OtherSeries h (line r) = OfOrder h r (Alike (making (subject r) h r) r → ⊥)
 
 -- "E X: n is more than open; U R: open is 0"
 abbrev pub NotOpen : History → Said → Type 0

@@ -14,9 +14,10 @@ use Rattle.order.specs.declared.Figures.{Figures}
 use Rattle.order.specs.declared.Key.{Key}
 use Rattle.order.specs.declared.Order.{Order}
 use Rattle.day.specs.History.{isNew, isBreak, isMaker}
-use Rattle.day.specs.Listing.{Sheet}
-use Rattle.day.specs.Machine.{Table, Booked, Found, nobody, found, find, amend, isFound, differs, notOpen, notExecuted, withFigures, bookEvent}
+use Rattle.day.specs.Listing.{Row, Sheet, Each}
+use Rattle.day.specs.Machine.{Found, nobody, found, find, amend, isFound, differs, notOpen, notExecuted, withFigures, bookEvent}
 use Rattle.day.specs.Refusals.{subject}
+use Rattle.day.specs.Tables.{Table, Booked}
 
 -- ---- 01, Promises of reader, table and sheet
 
@@ -44,6 +45,22 @@ module _ (sheet : Table → Sheet) where
   -- "One empty sheet for all": whatever its heading
   abbrev pub ShowsNothing : Type 0
   ShowsNothing = (t : Table) → sheet t .rows ≡ []
+
+  -- ours: a sheet whose open is always 0
+  abbrev pub ShowsNoOpen : Type 0
+  ShowsNoOpen = (t : Table) → Each (λ q. q .figures .«open» ≡ 0) (sheet t .rows)
+
+-- ours: one with two orders' figures exchanged, those of the first two rows
+abbrev pub withFiguresOf : Row → Row → Row
+withFiguresOf p q = record { member = q .member; figures = p .figures; key = q .key }
+
+abbrev pub exchanged : List Row → List Row
+exchanged [] = []
+exchanged (p ∷ []) = p ∷ []
+exchanged (p ∷ q ∷ rows) = withFiguresOf q p ∷ withFiguresOf p q ∷ rows
+
+abbrev pub exchanging : (Table → Sheet) → Table → Sheet
+exchanging sheet t = record { orders = sheet t .orders; families = sheet t .families; rows = exchanged (sheet t .rows) }
 
 -- ---- 01, Errors a quick hand would make: our machine, with its two lookups and what an accepted line does left open
 

@@ -26,7 +26,8 @@ use Rattle.layout.specs.declared.Strike.{Strike}
 use Rattle.layout.proofs.Answers.{ReadRefused, ReadSays, read-says, write-says}
 use Rattle.order.specs.Names.{keyOf}
 use Rattle.day.specs.History.{isNew, isMaker}
-use Rattle.day.specs.Machine.{Table, find, place, isFound, differs, notOpen, notExecuted, refusalOf, Booked, bookRead}
+use Rattle.day.specs.Machine.{find, place, isFound, differs, notOpen, notExecuted, refusalOf, bookRead}
+use Rattle.day.specs.Tables.{Table, Booked}
 use Rattle.day.specs.Refusals.{subject}
 use Rattle.table.specs.Entries.{placeOr8, lookUpAnswer, copyAnswer, copiedFrom}
 use Rattle.slot.specs.Slots.{keyIn}

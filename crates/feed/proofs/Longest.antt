@@ -12,7 +12,8 @@ use lib.ListN.{length, length-append}
 use Rattle.refusal.specs.Answer.{Answer, value, refused}
 use Rattle.layout.specs.Line.{Said, endOfDay, line, read}
 use Rattle.layout.proofs.Answers.{ReadSays, read-says}
-use Rattle.day.specs.Machine.{Table, refusalOf, bookRead}
+use Rattle.day.specs.Machine.{refusalOf, bookRead}
+use Rattle.day.specs.Tables.{Table}
 use Rattle.day.proofs.Chain.{answerBy}
 use Rattle.day.proofs.Verdict.{said-answer}
 use Rattle.table.specs.Tables.{limitOf, tableIn, sound}

@@ -8,7 +8,8 @@ use borrow.Author.Tests.{lt-ltb, le-ltb}
 use lib.Dec.{ltb}
 use lib.ListN.{length}
 use Rattle.refusal.specs.Answer.{Answer}
-use Rattle.day.specs.Machine.{Table, book}
+use Rattle.day.specs.Machine.{book}
+use Rattle.day.specs.Tables.{Table}
 use Rattle.table.specs.Tables.{tableIn, sound}
 use Rattle.book.specs.Bytes.{bookBytes}
 use Rattle.book.proofs.Limited.{says-answer, says-table}

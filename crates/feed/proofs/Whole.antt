@@ -3,7 +3,7 @@ use Prim.Native.Nat.{ℕ}
 use native.Mathlib.Omega.{arith}
 use mathlib.Core.Path.{_≡_, refl, sym, ap, _∙_}
 use mathlib.Core.List.{List, [], _++_, append-assoc}
-use Rattle.day.specs.Machine.{Table}
+use Rattle.day.specs.Tables.{Table}
 use Rattle.table.proofs.Making.{empty-sound}
 use Rattle.book.specs.Bytes.{bytesAfter}
 use Rattle.piece.specs.Pieces.{pieces}

@@ -4,7 +4,8 @@ use mathlib.Core.Bool.{cond}
 use mathlib.Core.List.{List, [], _∷_, _++_}
 use lib.Dec.{eqb}
 use Rattle.refusal.specs.Answer.{Answer, value, refused}
-use Rattle.day.specs.Machine.{Table, empty, book}
+use Rattle.day.specs.Machine.{book}
+use Rattle.day.specs.Tables.{Table, empty}
 use Rattle.row.specs.Texts.{decimal}
 use Rattle.sheet.specs.Texts.{sheetText}
 use Rattle.piece.specs.Pieces.{pieces}

@@ -5,7 +5,7 @@ use mathlib.Core.Path.{_≡_}
 use lib.ListN.{length}
 use Rattle.order.specs.declared.Figures.{Figures}
 use Rattle.order.specs.declared.Order.{Order}
-use Rattle.row.specs.Texts.{decimal, figuresText, heading, rowText}
+use Rattle.row.specs.Texts.{decimal, figuresText, heading, orderText}
 use Rattle.row.proofs.Decimals.{decimal-length}
 use Rattle.row.proofs.Puts.{heading-length, rank-length, traded-length, figures-length, names-length, row-length}
 use Rattle.row.proofs.Trimming.{trimmed-most}
@@ -33,7 +33,7 @@ figures-bound f size executed broken cancelled passed left =
 
 pub row-bound : (family rank : ℕ) (o : Order) → family ≤ 512 → rank ≤ 512 → o .figures .size ≤ 999999 → o .figures .executed ≤ 999999
     → o .figures .broken ≤ 999999 → o .figures .cancelled ≤ 999999 → o .figures .passed ≤ 999999 → o .figures .«open» ≤ 999999
-    → length (o .key .source) ≡ 6 → length (o .key .token) ≡ 20 → length (rowText family rank o) ≤ 78
+    → length (o .key .source) ≡ 6 → length (o .key .token) ≡ 20 → length (orderText family rank o) ≤ 78
 row-bound family rank o h k size executed broken cancelled passed left source token =
     let a = place-bound family h in
     let b = place-bound rank k in

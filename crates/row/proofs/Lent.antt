@@ -9,7 +9,7 @@ use Rattle.cell.proofs.Laws.{length-part, part-part}
 use Rattle.order.specs.declared.Figures.{Figures}
 use Rattle.slot.specs.Slots.{figuresIn, orderIn}
 use Rattle.slot.specs.Places.{slot, slotAt}
-use Rattle.row.specs.Texts.{decimal, trimmed, figuresText, namesText, rankText, rowText}
+use Rattle.row.specs.Texts.{decimal, trimmed, figuresText, namesText, rankText, orderText}
 use Rattle.row.specs.Writes.{Put, Wrote}
 use Rattle.row.proofs.Decimals.{decimal-most}
 use Rattle.row.proofs.Puts.{then, from-front, rank-length, traded-length, figures-length, names-length, row-length}
@@ -53,31 +53,31 @@ module _ (t : List ℕ) (i family rank : ℕ) (f : Figures) (e : f ≡ figuresIn
   figures-lent : figuresText f ≡ figuresText (orderIn (slot t i) .figures)
   figures-lent = ap figuresText (e ∙ ap figuresIn (slot-lent t i))
 
-  lent-length : length (rowText family rank (orderIn (slot t i)))
+  lent-length : length (orderText family rank (orderIn (slot t i)))
       ≡ length (rankText family rank) + length (figuresText f) + length (namesText (lentSource t i) (lentToken t i))
   lent-length = omega (arith, row-length family rank (orderIn (slot t i)), ap length figures-lent, ap length names-lent)
 
   -- ---- room
 
-  pub figures-room : (m n : ℕ) → m ≡ 0 + length (rankText family rank) → length (rowText family rank (orderIn (slot t i))) ≤ n
+  pub figures-room : (m n : ℕ) → m ≡ 0 + length (rankText family rank) → length (orderText family rank (orderIn (slot t i))) ≤ n
       → m + length (figuresText f) ≤ n
   figures-room m n h k = omega (arith, lent-length)
 
   pub names-room : (m k n : ℕ) → m ≡ 0 + length (rankText family rank) → k ≡ m + length (figuresText f)
-      → length (rowText family rank (orderIn (slot t i))) ≤ n → k + length (namesText (lentSource t i) (lentToken t i)) ≤ n
+      → length (orderText family rank (orderIn (slot t i))) ≤ n → k + length (namesText (lentSource t i) (lentToken t i)) ≤ n
   names-room m k n g h l = omega (arith, lent-length)
 
   -- ---- the whole row
 
   pub row-wrote : (l₀ l₁ l₂ l₃ : List ℕ) (m k r : ℕ) → Put (rankText family rank) 0 l₀ l₁ m → Put (figuresText f) m l₁ l₂ k
-      → Put (namesText (lentSource t i) (lentToken t i)) k l₂ l₃ r → Wrote (rowText family rank (orderIn (slot t i))) l₀ l₃ r
+      → Put (namesText (lentSource t i) (lentToken t i)) k l₂ l₃ r → Wrote (orderText family rank (orderIn (slot t i))) l₀ l₃ r
   row-wrote l₀ l₁ l₂ l₃ m k r a b c =
       let figures = rw figures-lent at b in
       let names = rw names-lent at c in
       from-front (then (then a figures) names)
 
   pub row-long : (d : ℕ) → slotAt i + 80 ≤ length t → d ≡ length (trimmed (lentToken t i))
-      → length (decimal family) + length (decimal rank) + length (figuresText f) + d + 10 ≡ length (rowText family rank (orderIn (slot t i)))
+      → length (decimal family) + length (decimal rank) + length (figuresText f) + d + 10 ≡ length (orderText family rank (orderIn (slot t i)))
   row-long d h k =
       let source : length (orderIn (slot t i) .key .source) ≡ 6 = length-part (slot t i) 0 6 (rw (length-part t (slotAt i) 80 h) (omega arith)) in
       omega (arith, lent-length, rank-length family rank, names-length (lentSource t i) (lentToken t i), ap length (source-lent t i))

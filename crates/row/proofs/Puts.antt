@@ -10,7 +10,7 @@ use Rattle.field.specs.Number.{filled}
 use Rattle.field.proofs.Stores.{sets-append}
 use Rattle.order.specs.declared.Figures.{Figures}
 use Rattle.order.specs.declared.Order.{Order}
-use Rattle.row.specs.Texts.{decimal, trimmed, heading, rankText, tradedText, figuresText, namesText, rowText}
+use Rattle.row.specs.Texts.{decimal, trimmed, heading, rankText, tradedText, figuresText, namesText, orderText}
 use Rattle.row.specs.Writes.{Put, Wrote}
 use Rattle.row.proofs.Decimals.{decimal-filled}
 
@@ -73,7 +73,7 @@ figures-length f = behind (tradedText f) (decimal (f .cancelled)) (decimal (f .p
 pub names-length : (source token : List ℕ) → length (namesText source token) ≡ 3 + length source + length (trimmed token)
 names-length source token = simp (length-append {A = ℕ}) (omega arith)
 
-pub row-length : (family rank : ℕ) (o : Order) → length (rowText family rank o) ≡ length (rankText family rank) + length (figuresText (o .figures)) + length (namesText (o .key .source) (o .key .token))
+pub row-length : (family rank : ℕ) (o : Order) → length (orderText family rank o) ≡ length (rankText family rank) + length (figuresText (o .figures)) + length (namesText (o .key .source) (o .key .token))
 row-length family rank o = three (rankText family rank) (figuresText (o .figures)) (namesText (o .key .source) (o .key .token))
   where
     three : (a b c : List ℕ) → length (a ++ b ++ c) ≡ length a + length b + length c

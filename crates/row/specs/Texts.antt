@@ -5,6 +5,7 @@ use mathlib.Core.List.{List, [], _∷_, _++_}
 use lib.Dec.{ltb, eqb}
 use Rattle.order.specs.declared.Figures.{Figures}
 use Rattle.order.specs.declared.Order.{Order}
+use Rattle.day.specs.Listing.{Row}
 
 -- at most w digits of a number
 abbrev pub decimalIn : ℕ → ℕ → List ℕ
@@ -58,6 +59,12 @@ figuresText f =
 abbrev pub namesText : (source token : List ℕ) → List ℕ
 namesText source token = column source ++ column (trimmed token) ++ (10 ∷ [])
 
--- "Each row"
-abbrev pub rowText : ℕ → ℕ → Order → List ℕ
-rowText family rank o = rankText family rank ++ figuresText (o .figures) ++ namesText (o .key .source) (o .key .token)
+-- "Each row: family and place in it joined by a dot, size, executed, broken, cancelled, passed on, open, the six Source bytes, the token"
+abbrev pub rowText : Row → List ℕ
+rowText q =
+    rankText (q .member .family) (q .member .rank) ++ figuresText (q .figures) ++ namesText (q .key .source) (q .key .token)
+
+-- the row of an order
+abbrev pub orderText : ℕ → ℕ → Order → List ℕ
+orderText family rank o =
+    rowText (record { member = record { family = family; rank = rank; at = 0 }; figures = o .figures; key = o .key })

@@ -4,7 +4,7 @@ ghost use mathlib.Core.Path.{_≡_};
 ghost use lib.ListN.{length, take};
 ghost use Rattle.slot.specs.Slots.{orderIn};
 ghost use Rattle.slot.specs.Places.{slot, slotAt};
-ghost use Rattle.row.specs.Texts.{column, decimal, figuresText, namesText, rankText, rowText, tradedText, trimmed};
+ghost use Rattle.row.specs.Texts.{column, decimal, figuresText, namesText, rankText, orderText, tradedText, trimmed};
 ghost use Rattle.row.specs.Writes.{Put, Wrote};
 
 pub mod decimal;
@@ -95,7 +95,7 @@ fn figures_length(f: Figures) -> usize
 
 pub fn length(t: &[u8], i: usize, family: u64, rank: u64) -> usize
     requires { ⌜ slotAt i + 80 ≤ length (now t) ⌝ }
-    ensures { λ r. ⌜ r ≡ length (rowText family rank (orderIn (slot (now (t .entry)) i))) ⌝ }
+    ensures { λ r. ⌜ r ≡ length (orderText family rank (orderIn (slot (now (t .entry)) i))) ⌝ }
 {
     let at = HEADER + SLOT * i;
     let figures = figures_length(slot::figures_in(&t[at..at + SLOT]));
@@ -110,8 +110,8 @@ pub fn length(t: &[u8], i: usize, family: u64, rank: u64) -> usize
 // Source and Token are lent from the table as they stand there.
 pub fn write(t: &[u8], i: usize, family: u64, rank: u64, out: &mut [u8]) -> usize
     requires { ⌜ slotAt i + 80 ≤ length (now t) ⌝ }
-    requires { ⌜ length (rowText family rank (orderIn (slot (now t) i))) ≤ length (now out) ⌝ }
-    ensures { λ r. ⌜ Wrote (rowText family rank (orderIn (slot (now (t .entry)) i))) (now (out .entry)) (now (out .exit)) r ⌝ }
+    requires { ⌜ length (orderText family rank (orderIn (slot (now t) i))) ≤ length (now out) ⌝ }
+    ensures { λ r. ⌜ Wrote (orderText family rank (orderIn (slot (now (t .entry)) i))) (now (out .entry)) (now (out .exit)) r ⌝ }
 {
     let at = HEADER + SLOT * i;
     let rank_end = put_rank(out, 0, family, rank);

@@ -7,16 +7,16 @@ use mathlib.Core.List.{List}
 use borrow.Author.Tests.{leb-true, leb-false, le-leb, lt-leb, lt-ltb, le-ltb}
 use lib.Dec.{leb}
 use lib.ListN.{length, length-append}
-use Rattle.day.specs.Listing.{families}
+use Rattle.day.specs.Walk.{families}
 use Rattle.slot.specs.Places.{ordersIn}
-use Rattle.sheet.specs.Texts.{rowsText}
+use Rattle.sheet.specs.Walk.{walkText}
 use Rattle.sheet.specs.Walk.{Stands, eldersIn, familiesText, rowsBehind, rowsLeft}
 use Rattle.sheet.specs.declared.Turn.{Turn}
 use Rattle.sheet.proofs.Stepping.{rowHere, textBehind, row-first}
 
 -- the text of the rows that are left
 abbrev textLeft : ℕ → List ℕ → Turn → List ℕ
-textLeft n s x = rowsText (ordersIn 0 n s) (rowsLeft n (eldersIn n s) x)
+textLeft n s x = walkText (ordersIn 0 n s) (rowsLeft n (eldersIn n s) x)
 
 pub record Fitting (s : List ℕ) (n space left : ℕ) (x : Turn) : Type 0 where
   pub stands : x .place < n → Stands n x
@@ -25,7 +25,7 @@ pub record Fitting (s : List ℕ) (n space left : ℕ) (x : Turn) : Type 0 where
 pub fitting-first : {s : List ℕ} {n space : ℕ} {x : Turn} → (x .place < n → Stands n x)
     → rowsLeft n (eldersIn n s) x ≡ families 1 0 (eldersIn n s) → Fitting s n space space x
 fitting-first {s} {n} {space} w e =
-    record { stands = w; same = ap (λ rows. leb (length (rowsText (ordersIn 0 n s) rows)) space) (sym e) }
+    record { stands = w; same = ap (λ rows. leb (length (walkText (ordersIn 0 n s) rows)) space) (sym e) }
 
 -- a text is taken from the space in front of another
 less-space : (a b left : ℕ) → a ≤ left → leb (a + b) left ≡ leb b (left - a)

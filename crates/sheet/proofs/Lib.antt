@@ -5,6 +5,7 @@ pub mod Fitting
 pub mod Headings
 pub mod Joining
 pub mod Refuted
+pub mod Rowing
 pub mod Seeking
 pub mod Stepping
 pub mod Turning

@@ -7,7 +7,7 @@ use mathlib.Core.List.{List, [], _∷_}
 use borrow.Author.Tests.{eq-eqb, ne-eqb}
 use lib.ListN.{length, drop, drop-of-length-le}
 use Rattle.day.specs.Damage.{eldersOf}
-use Rattle.day.specs.Listing.{rootCount}
+use Rattle.day.specs.Walk.{rootCount}
 use Rattle.day.proofs.Orders.{length-elders}
 use Rattle.slot.specs.Slots.{orderIn}
 use Rattle.slot.specs.Places.{slot, ordersIn}

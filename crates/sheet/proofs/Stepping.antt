@@ -4,29 +4,29 @@ use native.Mathlib.Omega.{arith}
 use mathlib.Core.Path.{_≡_, ap}
 use mathlib.Core.List.{List, [], _++_}
 use lib.ListN.{length, drop, length-append}
-use Rattle.row.specs.Texts.{rowText}
+use Rattle.row.specs.Texts.{orderText}
 use Rattle.row.specs.Writes.{Wrote}
 use Rattle.slot.specs.Slots.{orderIn}
 use Rattle.slot.specs.Places.{ordersIn, slot}
-use Rattle.sheet.specs.Texts.{rowAt, rowsText}
+use Rattle.sheet.specs.Walk.{rowAt, walkText}
 use Rattle.sheet.specs.Walk.{Stands, eldersIn, familiesText, membersText, rowsBehind, seek}
 use Rattle.sheet.specs.declared.Turn.{Turn}
 use Rattle.sheet.proofs.Joining.{lent, back, keeps-length, room-behind, one-text}
 use Rattle.sheet.proofs.Seeking.{length-elders-in}
 use Rattle.sheet.proofs.Turning.{turn, family-none, family-rows, last-rows, younger-rows}
 
-row-from : (j n i p f k : ℕ) (s : List ℕ) → i < n → p ≡ j + i → rowAt (ordersIn j n s) i f k ≡ rowText f k (orderIn (slot s p))
+row-from : (j n i p f k : ℕ) (s : List ℕ) → i < n → p ≡ j + i → rowAt (ordersIn j n s) i f k ≡ orderText f k (orderIn (slot s p))
 row-from j zero i p f k s h e = absurd (omega arith)
 row-from j (suc n) zero p f k s h e = let q : p ≡ j = omega arith in rw q
 row-from j (suc n) (suc i) p f k s h e = row-from (j + 1) n i p f k s (omega arith) (omega arith)
 
 -- the row of the order where the walk stands
 abbrev pub rowHere : List ℕ → Turn → List ℕ
-rowHere s x = rowText (x .family) (x .rank) (orderIn (slot s (x .place)))
+rowHere s x = orderText (x .family) (x .rank) (orderIn (slot s (x .place)))
 
 -- the text of the rows behind it
 abbrev pub textBehind : ℕ → List ℕ → Turn → List ℕ
-textBehind n s x = rowsText (ordersIn 0 n s) (rowsBehind (eldersIn n s) x)
+textBehind n s x = walkText (ordersIn 0 n s) (rowsBehind (eldersIn n s) x)
 
 pub row-first : (n : ℕ) (s : List ℕ) (x : Turn) → Stands n x → membersText n s x ≡ rowHere s x ++ textBehind n s x
 row-first n s x w =
@@ -37,18 +37,18 @@ row-first n s x w =
 module _ (n : ℕ) (s : List ℕ) (x : Turn) where
   pub younger-text : (y : ℕ) → y ≡ seek (x .place + 1) (x .place + 1) (drop (x .place + 1) (eldersIn n s)) → y < n
       → membersText n s (turn (x .root) y (x .family) (x .rank + 1)) ≡ textBehind n s x
-  younger-text y q h = ap (rowsText (ordersIn 0 n s)) (younger-rows (eldersIn n s) n (length-elders-in n s) x y q h)
+  younger-text y q h = ap (walkText (ordersIn 0 n s)) (younger-rows (eldersIn n s) n (length-elders-in n s) x y q h)
 
   pub last-text : (y : ℕ) → y ≡ seek (x .place + 1) (x .place + 1) (drop (x .place + 1) (eldersIn n s)) → n ≤ y
       → familiesText n s (x .root + 1) (x .family + 1) ≡ textBehind n s x
-  last-text y q h = ap (rowsText (ordersIn 0 n s)) (last-rows (eldersIn n s) n (length-elders-in n s) x y q h)
+  last-text y q h = ap (walkText (ordersIn 0 n s)) (last-rows (eldersIn n s) n (length-elders-in n s) x y q h)
 
 module _ (n : ℕ) (s : List ℕ) (f i r : ℕ) (q : r ≡ seek 0 i (drop i (eldersIn n s))) where
   pub family-text : r < n → membersText n s (turn r r f 1) ≡ familiesText n s i f
-  family-text h = ap (rowsText (ordersIn 0 n s)) (family-rows (eldersIn n s) n (length-elders-in n s) f i r q h)
+  family-text h = ap (walkText (ordersIn 0 n s)) (family-rows (eldersIn n s) n (length-elders-in n s) f i r q h)
 
   pub no-text : n ≤ r → familiesText n s i f ≡ []
-  no-text h = ap (rowsText (ordersIn 0 n s)) (family-none (eldersIn n s) n (length-elders-in n s) f i r q h)
+  no-text h = ap (walkText (ordersIn 0 n s)) (family-none (eldersIn n s) n (length-elders-in n s) f i r q h)
 
 -- ---- a row is written, and the text behind it into what is lent on
 

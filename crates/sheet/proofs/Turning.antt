@@ -1,4 +1,4 @@
--- From one row of the listing to the next: the rows behind a row begin with the order that is found, or end.
+-- From one member of the listing to the next: the rows behind a member begin with the order that is found, or end.
 use Prim.Native.Nat.{ℕ, zero, suc, _+_, _≤_, _<_}
 use native.Mathlib.Numerals.{add-one}
 use native.Mathlib.Omega.{arith}
@@ -9,7 +9,8 @@ use borrow.Author.Tests.{lt-ltb, le-ltb}
 use lib.Dec.{ltb, eqb, eqb·suc-zero}
 use lib.ListN.{length, drop, length-drop}
 use lib.Seq.{drop-cons}
-use Rattle.day.specs.Listing.{Row, row, below, families}
+use Rattle.day.specs.Listing.{Member}
+use Rattle.day.specs.Walk.{member, below, families}
 use Rattle.day.proofs.Listings.{by-test}
 use Rattle.sheet.specs.Walk.{Stands, familiesFrom, rowsBehind, rowsFrom, rowsLeft, seek}
 use Rattle.sheet.specs.declared.Turn.{Turn}
@@ -32,17 +33,17 @@ none-left : (es : List ℕ) (j : ℕ) → drop j es ≡ [] → ltb j (length es)
 none-left es j e = le-ltb j (length es) (omega (arith, simp length-drop at (ap length e)))
 
 -- the rows of a family from the one at place y on
-abbrev downFrom : List ℕ → ℕ → ℕ → ℕ → List Row
-downFrom es f k y = cond (ltb y (length es)) (row f k y ∷ below f k y (y + 1) (drop (y + 1) es)) []
+abbrev downFrom : List ℕ → ℕ → ℕ → ℕ → List Member
+downFrom es f k y = cond (ltb y (length es)) (member f k y ∷ below f k y (y + 1) (drop (y + 1) es)) []
 
 down : (es : List ℕ) (f k i j : ℕ) (s : List ℕ) → drop j es ≡ s → downFrom es f (k + 1) (seek (i + 1) j s) ≡ below f k i j s
 down es f k i j [] e = rw (none-left es j e)
 down es f k i j (x ∷ s) e =
     let (l, q) = rest es j x s e in
-    let here : downFrom es f (k + 1) j ≡ row f (k + 1) j ∷ below f (k + 1) j (j + 1) s = rw (lt-ltb j (length es) l, q) in
+    let here : downFrom es f (k + 1) j ≡ member f (k + 1) j ∷ below f (k + 1) j (j + 1) s = rw (lt-ltb j (length es) l, q) in
     go (eqb x (i + 1)) (seek (i + 1) (j + 1) s) here (down es f k i (j + 1) s q)
   where
-    go : (t : Bool) (y : ℕ) {a b : List Row} → downFrom es f (k + 1) j ≡ a → downFrom es f (k + 1) y ≡ b
+    go : (t : Bool) (y : ℕ) {a b : List Member} → downFrom es f (k + 1) j ≡ a → downFrom es f (k + 1) y ≡ b
         → downFrom es f (k + 1) (cond t j y) ≡ cond t a b
     go true y p q = p
     go false y p q = q
@@ -71,15 +72,15 @@ module _ (es : List ℕ) (n : ℕ) (e : length es ≡ n) where
 
   module _ (x : Turn) (y : ℕ) (q : y ≡ seek (x .place + 1) (x .place + 1) (drop (x .place + 1) es)) where
     -- what stands below a row, by what the search for its order's number found
-    found : cond (ltb y n) (row (x .family) (x .rank + 1) y ∷ below (x .family) (x .rank + 1) y (y + 1) (drop (y + 1) es)) []
+    found : cond (ltb y n) (member (x .family) (x .rank + 1) y ∷ below (x .family) (x .rank + 1) y (y + 1) (drop (y + 1) es)) []
         ≡ below (x .family) (x .rank) (x .place) (x .place + 1) (drop (x .place + 1) es)
     found = rw (← e, q) (down es (x .family) (x .rank) (x .place) (x .place + 1) (drop (x .place + 1) es) refl)
 
     pub younger-rows : y < n → rowsFrom es (turn (x .root) y (x .family) (x .rank + 1)) ≡ rowsBehind es x
-    younger-rows h = ap (λ (l : List Row). l ++ familiesFrom es (x .root + 1) (x .family + 1)) (rw (lt-ltb y n h) at found)
+    younger-rows h = ap (λ (l : List Member). l ++ familiesFrom es (x .root + 1) (x .family + 1)) (rw (lt-ltb y n h) at found)
 
     pub last-rows : n ≤ y → familiesFrom es (x .root + 1) (x .family + 1) ≡ rowsBehind es x
-    last-rows h = ap (λ (l : List Row). l ++ familiesFrom es (x .root + 1) (x .family + 1)) (rw (le-ltb y n h) at found)
+    last-rows h = ap (λ (l : List Member). l ++ familiesFrom es (x .root + 1) (x .family + 1)) (rw (le-ltb y n h) at found)
 
     pub younger-turn : y < n → rowsLeft n es (turn (x .root) y (x .family) (x .rank + 1)) ≡ rowsBehind es x
     younger-turn h = rw (lt-ltb y n h) (younger-rows h)

@@ -1,14 +1,27 @@
 -- The listing as it is walked: where the walk stands, and the rows that are left from there.
-use Prim.Native.Nat.{ℕ, _+_, _≤_, _<_}
+use Prim.Native.Nat.{ℕ, zero, suc, _+_, _≤_, _<_}
 use mathlib.Core.Bool.{cond}
 use mathlib.Core.List.{List, [], _∷_, _++_}
 use lib.Dec.{ltb, eqb}
 use lib.ListN.{drop}
+use Rattle.order.specs.declared.Order.{Order}
 use Rattle.day.specs.Damage.{eldersOf}
-use Rattle.day.specs.Listing.{Row, row, below, families}
+use Rattle.day.specs.Listing.{Member}
+use Rattle.day.specs.Walk.{member, below, families}
+use Rattle.row.specs.Texts.{orderText}
 use Rattle.slot.specs.Places.{ordersIn}
-use Rattle.sheet.specs.Texts.{rowsText}
 use Rattle.sheet.specs.declared.Turn.{Turn}
+
+-- the row of the order at a place, as text
+abbrev pub rowAt : List Order → ℕ → ℕ → ℕ → List ℕ
+rowAt [] i family rank = []
+rowAt (o ∷ os) zero family rank = orderText family rank o
+rowAt (o ∷ os) (suc i) family rank = rowAt os i family rank
+
+-- the rows of members, one after another
+abbrev pub walkText : List Order → List Member → List ℕ
+walkText os [] = []
+walkText os (q ∷ members) = rowAt os (q .at) (q .family) (q .rank) ++ walkText os members
 
 -- the elders of the first n orders
 abbrev pub eldersIn : ℕ → List ℕ → List ℕ
@@ -20,28 +33,28 @@ seek e j [] = j
 seek e j (x ∷ es) = cond (eqb x e) j (seek e (j + 1) es)
 
 -- families from place i on, the first of them numbered f
-abbrev pub familiesFrom : List ℕ → ℕ → ℕ → List Row
+abbrev pub familiesFrom : List ℕ → ℕ → ℕ → List Member
 familiesFrom es i f = families f i (drop i es)
 
--- below the row where the walk stands, and the families behind
-abbrev pub rowsBehind : List ℕ → Turn → List Row
+-- below the member where the walk stands, and the families behind
+abbrev pub rowsBehind : List ℕ → Turn → List Member
 rowsBehind es x =
     below (x .family) (x .rank) (x .place) (x .place + 1) (drop (x .place + 1) es) ++ familiesFrom es (x .root + 1) (x .family + 1)
 
--- from the row where the walk stands on
-abbrev pub rowsFrom : List ℕ → Turn → List Row
-rowsFrom es x = row (x .family) (x .rank) (x .place) ∷ rowsBehind es x
+-- from the member where the walk stands on
+abbrev pub rowsFrom : List ℕ → Turn → List Member
+rowsFrom es x = member (x .family) (x .rank) (x .place) ∷ rowsBehind es x
 
 -- and none where it stands behind the last of n orders
-abbrev pub rowsLeft : ℕ → List ℕ → Turn → List Row
+abbrev pub rowsLeft : ℕ → List ℕ → Turn → List Member
 rowsLeft n es x = cond (ltb (x .place) n) (rowsFrom es x) []
 
 -- as text, of the first n orders
 abbrev pub membersText : ℕ → List ℕ → Turn → List ℕ
-membersText n s x = rowsText (ordersIn 0 n s) (rowsFrom (eldersIn n s) x)
+membersText n s x = walkText (ordersIn 0 n s) (rowsFrom (eldersIn n s) x)
 
 abbrev pub familiesText : ℕ → List ℕ → ℕ → ℕ → List ℕ
-familiesText n s i f = rowsText (ordersIn 0 n s) (familiesFrom (eldersIn n s) i f)
+familiesText n s i f = walkText (ordersIn 0 n s) (familiesFrom (eldersIn n s) i f)
 
 -- a turn among n orders
 pub record Stands (n : ℕ) (x : Turn) : Type 0 where

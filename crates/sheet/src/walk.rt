@@ -2,7 +2,7 @@
 ghost use Prim.Native.Nat.{_≤_, _<_};
 ghost use mathlib.Core.Path.{_≡_};
 ghost use lib.ListN.{length, drop};
-ghost use Rattle.day.specs.Listing.{families, rootCount};
+ghost use Rattle.day.specs.Walk.{families, rootCount};
 ghost use Rattle.slot.specs.Places.{slotAt};
 ghost use Rattle.sheet.specs.Walk.{Stands, eldersIn, rowsBehind, rowsLeft, seek as Walk·seek};
 use crate::Turn;

@@ -12,7 +12,7 @@ use Rattle.refusal.specs.declared.Refusal.the-variants.{NoRoom, Damaged}
 use Rattle.cell.specs.Cells.{le}
 use Rattle.cell.proofs.Laws.{part-inside, part-whole, getD-part}
 use Rattle.layout.specs.Layout.{part}
-use Rattle.day.specs.Machine.{empty}
+use Rattle.day.specs.Tables.{empty}
 use Rattle.table.specs.Promises.{Makes}
 use Rattle.slot.specs.Places.{ordersIn}
 use Rattle.table.specs.Tables.{countIn, tableIn, sound}

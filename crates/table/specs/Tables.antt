@@ -10,7 +10,7 @@ use Rattle.field.specs.Byte.{all}
 use Rattle.refusal.specs.Answer.{Answer, value, refused}
 use Rattle.layout.specs.Layout.{part}
 use Rattle.day.specs.Damage.{undamaged}
-use Rattle.day.specs.Machine.{Table}
+use Rattle.day.specs.Tables.{Table}
 use Rattle.slot.specs.Places.{slotAt, ordersIn}
 
 -- the bytes of a table with room for so many orders

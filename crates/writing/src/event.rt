@@ -1,21 +1,8 @@
 // What an event puts into the fields that go by the type.
 ghost use mathlib.Core.Path.{_≡_};
-ghost use Rattle.layout.specs.Records.{typeOf, tradeOf};
+ghost use Rattle.layout.specs.Records.{tradeOf};
 use layout::Event;
 use layout::Trade;
-
-pub fn type_of(event: Event) -> u8
-    ensures { λ r. ⌜ r ≡ typeOf event ⌝ }
-{
-    match event {
-        Event::Accepted => b'A',
-        Event::Executed(_) => b'E',
-        Event::Cancelled => b'X',
-        Event::Broken(_) => b'C',
-        Event::Replaced => b'U',
-        Event::Repriced => b'R',
-    }
-}
 
 // Where an event carries no trade, the blank liquidity and ids of 0, which are lawful.
 pub fn trade_of(event: Event) -> Trade

@@ -28,7 +28,7 @@ pub fn check(r: Record) -> Checked
     let event = r.event;
     let trade = event::trade_of(event);
     let liquidity = [trade.liquidity];
-    let Bytes::Lawful = rule::liquidity(&liquidity, rule::is_trade(event::type_of(event))) else {
+    let Bytes::Lawful = rule::liquidity(&liquidity, rule::is_trade(rule::type_of(event))) else {
         return Checked::Unlawful(6);
     };
     account_fields(r)
@@ -60,7 +60,7 @@ fn account_fields(r: Record) -> Checked
     };
     let event = r.event;
     let replaced = r.replaced;
-    let Bytes::Lawful = rule::replaced(&replaced, rule::is_replace(event::type_of(event))) else {
+    let Bytes::Lawful = rule::replaced(&replaced, rule::is_replace(rule::type_of(event))) else {
         return Checked::Unlawful(12);
     };
     order_fields(r)

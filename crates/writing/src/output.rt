@@ -48,7 +48,7 @@ fn event_fields(r: Record, out: &mut [u8])
     let trade = event::trade_of(event);
     let firm = r.firm;
     put::filled(out, 0, 8, r.timestamp, b' ');
-    put::byte(out, 8, event::type_of(event));
+    put::byte(out, 8, rule::type_of(event));
     put::run(out, 9, &firm);
     put::byte(out, 13, r.capacity);
     put::byte(out, 14, r.position);
@@ -111,7 +111,7 @@ fn trade_fields(r: Record, out: &mut [u8])
 {
     let event = r.event;
     let trade = event::trade_of(event);
-    let on = rule::is_trade(event::type_of(event));
+    let on = rule::is_trade(rule::type_of(event));
     id(out, 120, on, trade.match_id);
     id(out, 129, on, trade.cross_id);
     put::run(out, rule::FIELDS, b"\r\n");
