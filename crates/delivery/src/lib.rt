@@ -1,1 +1,1 @@
-// What the delivered entries have together stands in specs/, and what is proved of them in proofs/. There is no code here.
+// What is delivered: the demands, said of the promises of the entries. Definitions and proofs alone; the code stands in the rooms below.

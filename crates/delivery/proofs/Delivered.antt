@@ -1,0 +1,126 @@
+-- A day by the promises reaches the bytes of demand 3: its answers, its sheet, and what the program prints.
+use Prim.Native.Nat.{ℕ, _+_, _≤_}
+use native.Mathlib.Nat.{zero-add}
+use native.Mathlib.Omega.{arith}
+use mathlib.Core.Path.{_≡_, refl, sym, ap, ap₂, subst, subst₂, _∙_}
+use mathlib.Core.Bool.{Bool, true}
+use mathlib.Core.List.{List, [], _∷_, _++_, append-assoc, append-nil}
+use borrow.Author.Tests.{le-ltb}
+use lib.ListN.{length, drop}
+use lib.Seq.{sets, sets-eq}
+use Rattle.refusal.specs.Answer.{Answer, value, refused}
+use Rattle.layout.specs.Line.{read}
+use Rattle.day.specs.Demand3.{IsAnswer, IsSheet, joined, tableAfter, answerTo, historyAfter}
+use Rattle.day.specs.History.{History}
+use Rattle.day.specs.Listing.{Sheet}
+use Rattle.day.specs.Machine.{book}
+use Rattle.day.specs.Tables.{Table, empty}
+use Rattle.day.specs.Walk.{sheetOf}
+use Rattle.day.proofs.Demand3.{demand3}
+use Rattle.table.specs.Promises.{Makes}
+use Rattle.table.specs.Tables.{tableLength, tableIn, sound}
+use Rattle.table.specs.declared.Made.{Made}
+use Rattle.book.specs.Bytes.{bookBytes, bookAnswer, bytesAfter}
+use Rattle.book.specs.Promises.{Books, bookingOf}
+use Rattle.book.specs.declared.Booking.{Booking}
+use Rattle.book.proofs.Reached.{reached-bytes}
+use Rattle.sheet.specs.Promises.{Sheets, writingOf, sheetAnswer, sheetFrom, textOf}
+use Rattle.sheet.specs.Texts.{textOfSheet, sheetText, longestSheet}
+use Rattle.sheet.specs.declared.Writing.{Writing}
+use Rattle.sheet.proofs.Bound.{sheet-bound}
+use Rattle.feed.specs.Printed.{report, printedFrom}
+use Rattle.delivery.specs.Delivered.{Call, Day, begun, booked, acceptedIn, inOrder, refusalLines, Shows, Delivered, Delivery}
+
+-- the pieces, latest first
+abbrev piecesIn : List Call → List (List ℕ)
+piecesIn [] = []
+piecesIn (c ∷ calls) = c .piece ∷ piecesIn calls
+
+-- ---- the sheet of a sound table
+
+module _ (s : List ℕ) (good : sound s ≡ true) (out : List ℕ) (room : length (textOf s) ≤ length out) where
+  answer : sheetAnswer s out ≡ value (length (textOf s))
+  unfolding sheetAnswer
+  answer = rw (good, le-ltb (length out) (length (textOf s)) room)
+
+  sheet-written : {x : Writing} {after : List ℕ} → Sheets s out x after
+      → (writingOf x ≡ value (length (textOf s))) × (after ≡ textOf s ++ drop (length (textOf s)) out)
+  sheet-written p = (
+    p .said ∙ answer,
+    p .out ∙ ap (λ (a : Answer ℕ). sheetFrom a s out) answer ∙ sets-eq (textOf s) out 0 (omega arith)
+        ∙ ap (λ (n : ℕ). textOf s ++ drop n out) (zero-add (length (textOf s))),
+  )
+
+module _ (before : List ℕ) (long : length before ≡ tableLength 512) where
+  abbrev day : List Call → Table
+  day calls = tableAfter (book 512) (piecesIn calls)
+
+  made : {x : Made} {table : List ℕ} → Makes before x table → table ≡ bytesAfter before []
+  made m = m .out ∙ rw long
+
+  -- ---- the bytes, the answers and the accepted lines of a day
+
+  same-bytes : {calls : List Call} {table : List ℕ} → Day before calls table → table ≡ bytesAfter before (piecesIn calls)
+  same-bytes (begun m) = made m
+  same-bytes (booked c d b) = b .out ∙ ap (λ (s : List ℕ). bookBytes s (c .piece)) (same-bytes d)
+
+  same-answer : {calls : List Call} {table : List ℕ} → Day before calls table → (p : List ℕ) (x : Booking) (after : List ℕ) → Books table p x after
+      → bookingOf x ≡ answerTo (book 512) (piecesIn calls) p
+  same-answer {calls} d p x after b =
+      b .said ∙ ap (λ (s : List ℕ). bookAnswer s p) (same-bytes d) ∙ reached-bytes before long (piecesIn calls) .2 p
+
+  same-history : {calls : List Call} {table : List ℕ} → Day before calls table → acceptedIn calls ≡ historyAfter (book 512) (piecesIn calls)
+  same-history (begun m) = refl
+  same-history (booked {after = after} c d b) =
+      ap₂ (λ (a : Answer (Unit {0})) (h : History). joined a (read (c .piece)) h) (same-answer d (c .piece) (c .answer) after b) (same-history d)
+
+  same-table : {calls : List Call} {table : List ℕ} → Day before calls table → tableIn table ≡ day calls
+  same-table {calls} d = ap tableIn (same-bytes d) ∙ reached-bytes before long (piecesIn calls) .0
+
+  still-sound : {calls : List Call} {table : List ℕ} → Day before calls table → sound table ≡ true
+  still-sound {calls} d = ap sound (same-bytes d) ∙ reached-bytes before long (piecesIn calls) .1
+
+  -- ---- what the program prints
+
+  printed-so : {calls : List Call} {table : List ℕ} → Day before calls table → (rest : List (List ℕ))
+      → printedFrom 1 empty (inOrder calls ++ rest) ≡ refusalLines calls ++ printedFrom (length calls + 1) (day calls) rest
+  printed-so (begun m) rest = refl
+  printed-so (booked {calls = calls} {after = after} c d b) rest =
+      let n = length calls in
+      let said = refusalLines calls in
+      let more = printedFrom (n + 1 + 1) (day (c ∷ calls)) rest in
+      let number : n + 1 + 1 ≡ length (c ∷ calls) + 1 = omega arith in
+      ap (printedFrom 1 empty) (append-assoc (inOrder calls) (c .piece ∷ []) rest)
+      ∙ printed-so d (c .piece ∷ rest)
+      ∙ ap (λ (a : Answer (Unit {0})). said ++ (report (n + 1) a ++ more)) (sym (same-answer d (c .piece) (c .answer) after b))
+      ∙ sym (append-assoc said (report (n + 1) (bookingOf (c .answer))) more)
+      ∙ ap (λ (k : ℕ). (said ++ report (n + 1) (bookingOf (c .answer))) ++ printedFrom k (day (c ∷ calls)) rest) number
+
+  -- ---- the sheet
+
+  shows : {calls : List Call} {table : List ℕ} → Day before calls table → Shows (acceptedIn calls) table
+  shows {calls} {table} d =
+      let ps = piecesIn calls in
+      let h = same-history d in
+      let t = same-table d in
+      record {
+        sheet = sheetOf (tableIn table);
+        so = subst₂ (λ (a : History) (u : Table). IsSheet a (sheetOf u)) (sym h) (sym t) (demand3 512 .sheet-so ps);
+        only-so = λ s x. demand3 512 .only-so ps s (subst (λ (a : History). IsSheet a s) h x) ∙ ap sheetOf (sym t);
+        written = λ out x after p room. sheet-written table (still-sound d) out room p;
+        room = sheet-bound table (still-sound d);
+      }
+
+pub delivery : Delivery
+unfolding shows
+delivery before long =
+    record {
+      answers = λ {calls} d p x after b.
+          subst₂ (λ (h : History) (a : Answer (Unit {0})). IsAnswer 512 h p a) (sym (same-history before long d)) (sym (same-answer before long d p x after b))
+          (demand3 512 .answers (piecesIn calls) p);
+      shows = shows before long;
+      prints = λ {calls} d text e.
+          ap (printedFrom 1 empty) (sym (append-nil (inOrder calls) ∙ e))
+          ∙ printed-so before long d []
+          ∙ ap (λ (t : Table). refusalLines calls ++ sheetText t) (sym (same-table before long d));
+    }

@@ -1,0 +1,74 @@
+-- The tender's demand 3 at the bytes: what a host gets who makes a table, books pieces and asks the sheet by the promises of the entries, and what the
+-- sheet program prints. proofs/Delivered.antt proves it.
+use Prim.Native.Nat.{ℕ, _+_, _≤_}
+use mathlib.Core.Path.{_≡_}
+use mathlib.Core.List.{List, [], _∷_, _++_}
+use lib.ListN.{length, drop}
+use Rattle.refusal.specs.Answer.{value}
+use Rattle.layout.specs.Line.{read}
+use Rattle.day.specs.Demand3.{IsAnswer, IsSheet, joined}
+use Rattle.day.specs.History.{History}
+use Rattle.day.specs.Listing.{Sheet}
+use Rattle.table.specs.Promises.{Makes}
+use Rattle.table.specs.Tables.{tableLength}
+use Rattle.table.specs.declared.Made.{Made}
+use Rattle.book.specs.Promises.{Books, bookingOf}
+use Rattle.book.specs.declared.Booking.{Booking}
+use Rattle.sheet.specs.Promises.{Sheets, writingOf}
+use Rattle.sheet.specs.Texts.{textOfSheet, longestSheet}
+use Rattle.sheet.specs.declared.Writing.{Writing}
+use Rattle.piece.specs.Pieces.{pieces}
+use Rattle.feed.specs.Printed.{report, printed}
+
+-- a piece that was booked, and what was answered
+pub record Call : Type 0 where
+  pub piece : List ℕ
+  pub answer : Booking
+
+-- "Start from an empty table and feed it lines, good or bad, in any sequence.": the empty table is made in a lent buffer, then pieces are booked into it,
+-- the latest first; last comes the buffer as it is then
+pub data Day (before : List ℕ) : List Call → List ℕ → Type 0 where
+  begun : {x : Made} {table : List ℕ} → Makes before x table → Day before [] table
+  booked : {calls : List Call} {table after : List ℕ} (c : Call) → Day before calls table → Books table (c .piece) (c .answer) after
+      → Day before (c ∷ calls) after
+
+-- the accepted lines
+abbrev pub acceptedIn : List Call → History
+acceptedIn [] = []
+acceptedIn (c ∷ calls) = joined (bookingOf (c .answer)) (read (c .piece)) (acceptedIn calls)
+
+-- the pieces in the order in which they were booked
+abbrev pub inOrder : List Call → List (List ℕ)
+inOrder [] = []
+inOrder (c ∷ calls) = inOrder calls ++ (c .piece ∷ [])
+
+-- 01, The sheet: "numbers them from 1, .. prints for each refused piece as it comes"
+abbrev pub refusalLines : List Call → List ℕ
+refusalLines [] = []
+refusalLines (c ∷ calls) = refusalLines calls ++ report (length calls + 1) (bookingOf (c .answer))
+
+-- the sheet of the accepted lines h, as it is written from the bytes of a table
+pub record Shows (h : History) (table : List ℕ) : Type 0 where
+  -- there is one, and no other: N and F counted, families in order, each row's key and figures as the accepted lines say
+  pub sheet : Sheet
+  pub so : IsSheet h sheet
+  pub only-so : (s : Sheet) → IsSheet h s → s ≡ sheet
+  -- "Given room": its text is written, and only the bytes it needs, from the front
+  pub written : (out : List ℕ) (x : Writing) (after : List ℕ) → Sheets table out x after → length (textOfSheet sheet) ≤ length out
+      → (writingOf x ≡ value (length (textOfSheet sheet))) × (after ≡ textOfSheet sheet ++ drop (length (textOfSheet sheet)) out)
+  -- and there is room in every buffer of this length
+  pub room : length (textOfSheet sheet) ≤ longestSheet
+
+-- whatever the buffer of a table's length held before
+pub record Delivered (before : List ℕ) : Type 0 where
+  -- "A line is accepted exactly when no refusal of the build paper applies to it after the lines accepted before it.": each answer of each such day
+  pub answers : {calls : List Call} {table : List ℕ} → Day before calls table → (p : List ℕ) (x : Booking) (after : List ℕ) → Books table p x after
+      → IsAnswer 512 (acceptedIn calls) p (bookingOf x)
+  -- "the sheet shows every accepted order once and no other .. Every figure equals what the accepted lines naming that order say"
+  pub shows : {calls : List Call} {table : List ℕ} → Day before calls table → Shows (acceptedIn calls) table
+  -- what the program prints for a text is the refusal lines of its pieces and then the text of that sheet
+  pub prints : {calls : List Call} {table : List ℕ} (day : Day before calls table) (text : List ℕ) → inOrder calls ≡ pieces text
+      → printed text ≡ refusalLines calls ++ textOfSheet (shows day .sheet)
+
+abbrev pub Delivery : Type 0
+Delivery = (before : List ℕ) → length before ≡ tableLength 512 → Delivered before
