@@ -6,7 +6,13 @@
 
 #include "skurzelt.h"
 
-/* All of standard input; a failed read counts as its end. */
+static int failed(const char *what)
+{
+    fprintf(stderr, "host: %s\n", what);
+    return EXIT_FAILURE;
+}
+
+/* All of standard input, up to its end or a failed read: ferror(stdin) tells which. NULL if there is no memory for it. */
 static uint8_t *read_all(size_t *length)
 {
     size_t room = 1 << 16;
@@ -41,8 +47,13 @@ int main(void)
     static uint8_t sheet[SKURZELT_SHEET];
     size_t length;
     uint8_t *text = read_all(&length);
-    if (text == NULL || skurzelt_empty_table(table, sizeof table) != 0)
-        return EXIT_FAILURE;
+    if (text == NULL)
+        return failed("no memory for the input");
+    /* What could not be read must not pass for the end of the capture. */
+    if (ferror(stdin))
+        return failed("the input could not be read");
+    if (skurzelt_empty_table(table, sizeof table) != 0)
+        return failed("no empty table");
 
     uint64_t at = 0, end, line = 0;
     while (skurzelt_next_piece(text, length, at, &end) == 0 && end != at) {
@@ -55,9 +66,11 @@ int main(void)
 
     uint64_t written;
     if (skurzelt_sheet(table, sizeof table, sheet, sizeof sheet, &written) != 0)
-        return EXIT_FAILURE;
+        return failed("no sheet");
     fwrite(sheet, 1, written, stdout);
     free(text);
     /* What could not be written must not pass for a sheet. */
-    return fflush(stdout) == 0 && !ferror(stdout) ? EXIT_SUCCESS : EXIT_FAILURE;
+    if (fflush(stdout) != 0 || ferror(stdout))
+        return failed("the output could not be written");
+    return EXIT_SUCCESS;
 }
