@@ -1,8 +1,9 @@
 /* Skurzelt: QUO DROP lines, the table of a day's orders, and the family sheet.
 
    Lending. The library keeps nothing and allocates nothing. A caller lends bytes (a pointer and a length) and numbers (a pointer to one) for the
-   time of one call. What is lent as const is only read. Buffers lent to one call must not overlap. A pointer must not be null, even where the
-   length is 0. Calls on different tables may run at the same time.
+   time of one call. What is lent as const is only read. Two buffers lent to one call as const may overlap (a key may stand inside its own table); a
+   buffer or number that is not const must not overlap anything else lent to that call. A pointer must not be null, even where the length is 0. Calls
+   on different tables may run at the same time.
 
    Answers. Every function answers one number: 0, or a refusal. A refusal is its number, and for SKURZELT_FIELD also 256 times the field:
    use skurzelt_refusal() and skurzelt_field(). A refused call has changed no lent byte and no lent number. Any bytes may be lent, of any length:

@@ -78,6 +78,9 @@ static void tables(const uint8_t *line)
     expect("book again", skurzelt_book(table, sizeof table, line, SKURZELT_LINE), SKURZELT_KNOWN_KEY);
     expect("find_order", skurzelt_find_order(table, sizeof table, line + 30, SKURZELT_KEY, &place), 0);
     expect("place", place, 0);
+    place = 7;
+    expect("find_order, the key inside its own table", skurzelt_find_order(table, sizeof table, table + 8, SKURZELT_KEY, &place), 0);
+    expect("its place", place, 0);
     expect("order_at", skurzelt_order_at(table, sizeof table, place, order, sizeof order), 0);
     expect("the order's key", memcmp(order, line + 30, SKURZELT_KEY), 0);
     expect("order_at the next place", skurzelt_order_at(table, sizeof table, 1, order, sizeof order), SKURZELT_UNKNOWN_KEY);
