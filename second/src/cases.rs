@@ -23,8 +23,11 @@ const UNITS: [u64; 5] = [10_000, 1_000, 100, 10, 1];
 
 type Written = io::Result<()>;
 
-/// Writes one case.
+/// Writes one case. One that is too long would end the run, and with it the comparison: it is an error.
 pub fn put(out: &mut impl Write, kind: u8, payload: &[u8]) -> Written {
+    if payload.len() > LONGEST {
+        return Err(io::Error::other("a generated case is too long"));
+    }
     let length = payload.len() as u32;
     out.write_all(&[kind])?;
     out.write_all(&length.to_le_bytes())?;

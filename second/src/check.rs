@@ -100,7 +100,7 @@ fn more() -> Vec<Vector> {
 /// A law that runs over many values.
 pub type Law = (&'static str, fn() -> bool);
 
-fn laws() -> [Law; 15] {
+fn laws() -> [Law; 16] {
     [
         ("The fields lie one behind another over 138 bytes", fields_lie_in_a_row),
         ("Each code is one of its list, each hex digit one of 0-9 A-F", codes_are_of_their_lists),
@@ -117,6 +117,7 @@ fn laws() -> [Law; 15] {
         ("The pieces by number, one behind another, are the text", numbers_give_all_pieces),
         ("Input that ends inside a case ends the run", cut_input_ends_the_run),
         ("A payload of 65,537 bytes ends the run", a_long_case_ends_the_run),
+        ("No generator writes a payload of 65,537 bytes", no_long_case_is_written),
     ]
 }
 
@@ -374,8 +375,14 @@ fn cut_input_ends_the_run() -> bool {
 }
 
 fn a_long_case_ends_the_run() -> bool {
-    let mut cases = two_names();
-    put(&mut cases, b'n', &[b'x'; trial::LONGEST + 1]).expect("memory takes every byte");
-    cases.extend(two_names());
-    trial_of(&cases) == b"== one\n== two\ncase too long\n"
+    let long = [&b"n"[..], &(trial::LONGEST as u32 + 1).to_le_bytes(), &[b'x'; trial::LONGEST + 1]].concat();
+    trial_of(&[two_names(), long, two_names()].concat()) == b"== one\n== two\ncase too long\n"
+}
+
+fn no_long_case_is_written() -> bool {
+    let (mut longest, mut longer) = (vec![], vec![]);
+    put(&mut longest, b'n', &[b'x'; trial::LONGEST]).is_ok()
+        && trial_of(&longest).len() == trial::LONGEST + b"== \n".len()
+        && put(&mut longer, b'n', &[b'x'; trial::LONGEST + 1]).is_err()
+        && longer.is_empty()
 }
