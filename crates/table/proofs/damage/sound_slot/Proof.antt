@@ -1,4 +1,6 @@
 -- `table::damage::sound_slot` meets its contract.
+use mathlib.Core.Path.{ap₂}
+use mathlib.Core.Bool.{_&&_}
 use borrow.Author.Needs.{needs}
 use Rattle.table.proofs.damage.sound_slot.Statement.{statement}
 use Rattle.table.proofs.damage.sound_slot.Tie as tie
@@ -19,7 +21,7 @@ sound-order-requires : tie.Need-sound-order-requires
 sound-order-requires c κs = search needs
 
 returns : tie.Need-returns
-returns c = cc
+returns c = ap₂ _&&_ (c .before .zeros .ensures) (c .sound-order .ensures)
 
 pub sound-slot-spec : {M : Type 1} → statement M
 sound-slot-spec =
