@@ -1,6 +1,6 @@
 -- The ways out of booking a piece, each as the promise says it.
 use Prim.Native.Nat.{ℕ, _+_}
-use mathlib.Core.Path.{_≡_, ap, _∙_}
+use mathlib.Core.Path.{_≡_, ap, ap₂, _∙_}
 use mathlib.Core.Bool.{true, false}
 use mathlib.Core.List.{List, [], _∷_}
 use native.Mathlib.Omega.{arith}
@@ -15,7 +15,7 @@ use Rattle.line.specs.Promises.{saidOf}
 use Rattle.line.specs.declared.Outcome.{Outcome}
 use Rattle.order.specs.declared.Figures.{Figures}
 use Rattle.order.specs.declared.Order.{Order}
-use Rattle.day.specs.Machine.{withFigures}
+use Rattle.day.specs.Machine.{withFigures, newOrder}
 use Rattle.slot.specs.Slots.{orderIn, slotBytes}
 use Rattle.slot.specs.Places.{slot, slotAt}
 use Rattle.table.specs.Tables.{countIn, sound, tableIn}
@@ -26,6 +26,7 @@ use Rattle.book.specs.Promises.{Books, bookingOf}
 use Rattle.book.specs.declared.Booking.{Booking}
 use Rattle.book.specs.declared.Booking.the-variants.{Booked, Refused}
 use Rattle.book.specs.declared.Plan.{Plan}
+use Rattle.book.specs.declared.Plan.the-variants.{Replace}
 
 -- ---- what is stored
 
@@ -43,6 +44,11 @@ free-kept s u i f e h =
     let b = slotBytes (withFigures (λ (old : Figures). f) (orderIn (slot s i))) in
     let kept : countIn (sets s (slotAt i) b) ≡ countIn s = ap le (header-kept s b i 0 4 (omega arith)) in
     rw (e, kept, length-sets s (slotAt i) b) h
+
+-- the elder's figures, then the order that names it
+pub one-replaced : (s u v : List ℕ) (i : ℕ) (f : Figures) (r : Record) (o : Order) → u ≡ refigured i f s → o ≡ newOrder r (i + 1) → v ≡ appended o u
+    → v ≡ afterPlan (Replace i f) r s
+one-replaced s u v i f r o e k g = g ∙ ap₂ appended k e
 
 -- ---- a plan is carried out
 

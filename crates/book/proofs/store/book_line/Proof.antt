@@ -1,11 +1,11 @@
 -- `book::store::book_line` meets its contract.
-use mathlib.Core.Path.{refl, ap, ap₂, _∙_}
+use mathlib.Core.Path.{refl, ap, _∙_}
 use native.Mathlib.Omega.{arith}
 use borrow.Author.Needs.{needs}
 use denote.Ref.{now}
 use Rattle.book.specs.declared.Booking.the-variants.{Booked, Refused}
 use Rattle.book.specs.Bytes.{appended}
-use Rattle.book.proofs.Booked.{plan-is, carried, free-kept}
+use Rattle.book.proofs.Booked.{plan-is, carried, free-kept, one-replaced}
 use Rattle.book.proofs.store.book_line.Statement.{statement}
 use Rattle.book.proofs.store.book_line.Tie as tie
 
@@ -80,7 +80,11 @@ same-length-5 : tie.Need-same-length-5
 same-length-5 c = search needs
 
 returns-5 : tie.Need-returns-5
-returns-5 c = carried (now (c .before .before .before .before .before .before .before .before .before .before .before .before .before .before .before .args .t)) (c .before .before .before .before .before .before .before .before .before .before .before .before .before .before .before .args .r) _ Booked _ (plan-is (now (c .before .before .before .before .before .before .before .before .before .before .before .before .before .before .before .args .t)) (c .before .before .before .before .before .before .before .before .before .before .before .before .before .before .before .args .r) _ _ (c .before .before .before .before .before .before .before .before .before .before .before .before .plan .ensures) (c .before .before .before .before .before .before .before .before .before .before .i3 .given .1)) refl (c .before .before .append2 .ensures ∙ ap₂ appended (c .before .before .before .new-order2 .ensures) (c .before .before .before .before .before .before .before .refigure2 .ensures))
+returns-5 c =
+    let start = c .before .before .before .before .before .before .before .before .before .before .before .before .before .before .before in
+    let parts = c .before .before .before .before .before .before .before .before .before .before .i3 .given .0 in
+    let stored = one-replaced (now (start .args .t)) _ _ (parts .0) (parts .1 .0) (start .args .r) _ (c .before .before .before .before .before .before .before .refigure2 .ensures) (c .before .before .before .new-order2 .ensures) (c .before .before .append2 .ensures) in
+    carried (now (start .args .t)) (start .args .r) _ Booked _ (plan-is (now (start .args .t)) (start .args .r) _ _ (c .before .before .before .before .before .before .before .before .before .before .before .before .plan .ensures) (c .before .before .before .before .before .before .before .before .before .before .i3 .given .1)) refl stored
 
 pub book-line-spec : {M : Type 1} → statement M
 book-line-spec =
