@@ -10,7 +10,7 @@ use lib.Dec.{eqb, ltb}
 use lib.ListN.{length, take, drop}
 use lib.Seq.{take-at}
 use Rattle.refusal.specs.Answer.{Answer, value, refused}
-use Rattle.layout.specs.Demand2.{fieldIn, keeps, fieldOf, holds, LawfulLine, LawfulRecord, First}
+use Rattle.layout.specs.Demand2.{fieldIn, keeps, fieldHeld, holds, LawfulLine, LawfulRecord, First}
 use Rattle.layout.specs.Layout.{say, breaks}
 use Rattle.layout.specs.Line.{Said, endOfDay, line, crlf, same, isLine, printable, rowsOf, saidBy, read, lineOf, unlawful, write, outAfter, writeInto}
 use Rattle.layout.specs.Records.{recordOf}
@@ -85,11 +85,11 @@ read-says s e = subst (ReadSays s) e (go (same s crlf) (isLine s) (printable s) 
         subst (ReadSays s) (sym (fields-read s y z)) (judged-read s y z a (judged-says (keeps s) (line (recordIn s))))
 
 -- each field of the record is what its rule reads in its bytes
-pub field-said : (s : List ℕ) (r : Record) → read s ≡ value (line r) → (n : ℕ) → 1 ≤ n → n ≤ 24 → fieldIn s n ≡ got (fieldOf r n)
+pub field-said : (s : List ℕ) (r : Record) → read s ≡ value (line r) → (n : ℕ) → 1 ≤ n → n ≤ 24 → fieldIn s n ≡ got (fieldHeld r n)
 field-said s r e n a b =
     let h = read-says s e in
-    let said : fieldOf (recordIn s) n ≡ valueOf (fieldIn s n) = rw (line-fields s (h .0)) (told-at (rowsOf s) s (n - 1) (omega arith)) in
-    kept-got (fieldIn s n) (h .0 .fields n a b) ∙ ap got (sym said ∙ ap (λ (q : Record). fieldOf q n) (h .1))
+    let said : fieldHeld (recordIn s) n ≡ valueOf (fieldIn s n) = rw (line-fields s (h .0)) (told-at (rowsOf s) s (n - 1) (omega arith)) in
+    kept-got (fieldIn s n) (h .0 .fields n a b) ∙ ap got (sym said ∙ ap (λ (q : Record). fieldHeld q n) (h .1))
 
 pub read-back : (s : List ℕ) (r : Record) → read s ≡ value (line r) → LawfulRecord r × (lineOf r ≡ s)
 read-back s r e =

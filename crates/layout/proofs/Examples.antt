@@ -1,7 +1,7 @@
--- The twelve examples of specs/Examples.antt and its whole lines: each computes.
+-- The twelve examples of specs/Examples.antt, its whole lines and its broken ones: each computes.
 use mathlib.Core.Path.{refl}
 use Rattle.layout.specs.Clocks.{clock}
-use Rattle.layout.specs.Examples.{Bounds, Whole}
+use Rattle.layout.specs.Examples.{Bounds, Whole, FieldBroken}
 use Rattle.layout.specs.Line.{read, lineOf}
 use Rattle.layout.specs.Strikes.{strikeValue, strikeForm}
 
@@ -26,3 +26,17 @@ bounds =
 pub whole : Whole
 unfolding read lineOf
 whole = record { execution-reads = refl; execution-written = refl; replacement-reads = refl; replacement-written = refl }
+
+pub field-broken : FieldBroken
+unfolding read
+field-broken =
+    record {
+      zero-filled = refl;
+      half-blank = refl;
+      replaced-on-E = refl;
+      lowercase = refl;
+      date-0 = refl;
+      date-32 = refl;
+      no-price = refl;
+      blank-id = refl;
+    }

@@ -13,7 +13,7 @@ use Rattle.field.specs.Byte.{isOf, all}
 use Rattle.field.specs.Kept.{member}
 use Rattle.field.specs.declared.Class.the-variants.{Printable}
 use Rattle.layout.specs.Demand2.{rowAt, isGot, keeps, holds, LawfulLine, LawfulRecord}
-use Rattle.layout.specs.Layout.{Row, layout, types, liquidities, denominators, isTrade, idNumber, part, firstUnlawful, writeRows, placed, fitting}
+use Rattle.layout.specs.Layout.{Row, layout, types, liquidities, denominators, isTrade, isReplace, idNumber, part, firstUnlawful, writeRows, placed, fitting}
 use Rattle.layout.specs.Line.{crlf, same, isLine, printable, rowsOf, rowsFor, lineOf}
 use Rattle.layout.specs.Records.{typeOf, fieldsOf, recordOf, runOf, byteAt}
 use Rattle.layout.specs.Rule.{Rule, code, kept, text, blank, Value, gotRun, reads, fits}
@@ -36,7 +36,7 @@ placed-layout t d = refl
 fitting-layout : (t d : ℕ) → fitting (layout t d) ≡ true
 fitting-layout t d = rw (
   fits-either (isTrade t) (code liquidities) (kept blank) 1 refl refl,
-  fits-either (eqb t 85) (kept text) (kept blank) 20 refl refl,
+  fits-either (isReplace t) (kept text) (kept blank) 20 refl refl,
   fits-either (isTrade t) idNumber (kept blank) 9 refl refl,
 )
 

@@ -7,7 +7,7 @@ use mathlib.Core.List.{List, _++_}
 use lib.ListN.{length, getD, drop}
 use lib.Seq.{ext-getD}
 use Rattle.refusal.specs.Answer.{Answer, value, refused}
-use Rattle.layout.specs.Demand2.{Demand2, fieldOf}
+use Rattle.layout.specs.Demand2.{Demand2, fieldHeld}
 use Rattle.layout.specs.Line.{Said, endOfDay, line, read, lineOf, write, outAfter, writeInto}
 use Rattle.layout.specs.Records.{fieldsOf, recordOf}
 use Rattle.layout.specs.Rule.{num}
@@ -19,7 +19,7 @@ use Rattle.layout.proofs.Forms.{no-value}
 use Rattle.layout.proofs.Values.{record-fields}
 
 -- two records that hold the same as each of the 24 fields are one
-same-fields : (r q : Record) → ((n : ℕ) → 1 ≤ n → n ≤ 24 → fieldOf r n ≡ fieldOf q n) → r ≡ q
+same-fields : (r q : Record) → ((n : ℕ) → 1 ≤ n → n ≤ 24 → fieldHeld r n ≡ fieldHeld q n) → r ≡ q
 same-fields r q h = sym (record-fields r) ∙ ap recordOf (ext-getD (num 0) (fieldsOf r) (fieldsOf q) refl at) ∙ record-fields q
   where
     at : (i : ℕ) → i < 24 → getD (fieldsOf r) i (num 0) ≡ getD (fieldsOf q) i (num 0)

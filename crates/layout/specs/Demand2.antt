@@ -29,12 +29,12 @@ abbrev pub keeps : List ℕ → ℕ → Bool
 keeps s n = isGot (fieldIn s n)
 
 -- what a record holds as field n
-abbrev pub fieldOf : Record → ℕ → Value
-fieldOf r n = getD (fieldsOf r) (n - 1) (num 0)
+abbrev pub fieldHeld : Record → ℕ → Value
+fieldHeld r n = getD (fieldsOf r) (n - 1) (num 0)
 
 -- field n of a record holds a value that its rule allows
 abbrev pub holds : Record → ℕ → Bool
-holds r n = lawful (rowAt (rowsFor r) n .rule) (rowAt (rowsFor r) n .len) (fieldOf r n)
+holds r n = lawful (rowAt (rowsFor r) n .rule) (rowAt (rowsFor r) n .len) (fieldHeld r n)
 
 -- no rule is broken
 pub record LawfulLine (s : List ℕ) : Type 0 where
@@ -57,7 +57,7 @@ pub record Demand2 (read : List ℕ → Answer Said) (write : Record → List �
   -- "Each lawful line gives exactly one record": a piece reads as a record exactly when it is lawful
   pub lawful-reads : (s : List ℕ) → LawfulLine s ↔ ((r : Record) × (read s ≡ value (line r)))
   -- and that record holds, as each of its 24 fields, what the field's rule reads in the field's bytes
-  pub says : (s : List ℕ) (r : Record) → read s ≡ value (line r) → (n : ℕ) → 1 ≤ n → n ≤ 24 → fieldIn s n ≡ got (fieldOf r n)
+  pub says : (s : List ℕ) (r : Record) → read s ≡ value (line r) → (n : ℕ) → 1 ≤ n → n ≤ 24 → fieldIn s n ≡ got (fieldHeld r n)
   -- "each lawful record exactly that line back": what is read is lawful, and with room is written as the very line; behind it stays what stood there
   pub read-back : (s : List ℕ) (r : Record) → read s ≡ value (line r)
       → LawfulRecord r × ((out : List ℕ) → 140 ≤ length out → write r out ≡ (value tt, s ++ drop 140 out))

@@ -1,4 +1,4 @@
--- 01, Both sides of each bound: the twelve examples marked (P), as one statement; and whole lines beside their records. proofs/Examples.antt proves both.
+-- 01, Both sides of each bound: the twelve examples marked (P), as one statement; whole lines beside their records; and lines with one field broken. proofs/Examples.antt proves them.
 use Prim.Native.Char.{code}
 use Prim.Native.Nat.{ℕ}
 use Prim.Native.String.{String}
@@ -6,6 +6,7 @@ use Prim.Native.String.{_++_ as _⋅_}
 use mathlib.Core.Path.{_≡_}
 use mathlib.Core.List.{List, _++_}
 use lib.ListN.{replicate}
+use lib.Seq.{sets}
 use Rattle.refusal.specs.Answer.{value, refused}
 use Rattle.layout.specs.Clocks.{clock}
 use Rattle.layout.specs.Line.{line, read, lineOf}
@@ -136,3 +137,26 @@ pub record Whole : Type 0 where
   pub execution-written : lineOf executed ≡ execution
   pub replacement-reads : read replacement ≡ value (line replacing)
   pub replacement-written : lineOf replacing ≡ replacement
+
+-- ---- the same execution with one field broken
+
+-- the execution with a text stored at a place of the line
+abbrev pub but : ℕ → String → List ℕ
+but at t = sets execution at (bytes t)
+
+pub record FieldBroken : Type 0 where
+  -- "`00000012` is 3, field 1."
+  pub zero-filled : read (but 0 "00000012") ≡ refused 3 1
+  -- "five digits or blank": not some of each
+  pub half-blank : read (but 20 "   09") ≡ refused 3 8
+  -- "on U: text; else blank"
+  pub replaced-on-E : read (but 56 "T2") ≡ refused 3 12
+  -- "Lowercase in the Reference is 3, field 13."
+  pub lowercase : read (but 76 "000836aff") ≡ refused 3 13
+  -- "two digits, 01 to 31"
+  pub date-0 : read (but 99 "00") ≡ refused 3 18
+  pub date-32 : read (but 99 "32") ≡ refused 3 18
+  -- "Ten spaces is 3, field 22."
+  pub no-price : read (but 110 "          ") ≡ refused 3 22
+  -- "on E and C: number"
+  pub blank-id : read (but 120 "         ") ≡ refused 3 23

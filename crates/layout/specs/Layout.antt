@@ -57,9 +57,12 @@ isTrade t = eqb t 69 || eqb t 67
 abbrev pub onTrade : ℕ → Rule → Rule → Rule
 onTrade t a b = cond (isTrade t) a b
 
--- on U
+-- Replaced Token stands on U
+abbrev pub isReplace : ℕ → Bool
+isReplace t = eqb t 85
+
 abbrev pub onReplace : ℕ → Rule → Rule → Rule
-onReplace t a b = cond (eqb t 85) a b
+onReplace t a b = cond (isReplace t) a b
 
 -- 01, The line, Strike: under A to D the first digit isn't 0; under E the digits aren't 000000
 abbrev pub leastStrike : ℕ → ℕ

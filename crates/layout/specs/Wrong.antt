@@ -6,7 +6,7 @@ use mathlib.Core.List.{List}
 use lib.Dec.{eqb}
 use lib.ListN.{length, take, drop, set, replicate}
 use Rattle.refusal.specs.Answer.{Answer, value}
-use Rattle.layout.specs.Demand2.{LawfulLine, LawfulRecord, fieldOf}
+use Rattle.layout.specs.Demand2.{LawfulLine, LawfulRecord, fieldHeld}
 use Rattle.layout.specs.Line.{Said, line, read, lineOf}
 use Rattle.layout.specs.Records.{one, fieldsOf, recordOf}
 use Rattle.layout.specs.Rule.{Value, num}
@@ -41,7 +41,7 @@ otherContracts r = withField 15 (num (1000000 - r .contracts)) r
 
 -- two fields in each other's place
 abbrev pub exchanged : ℕ → ℕ → Record → Record
-exchanged m n r = withField m (fieldOf r n) (withField n (fieldOf r m) r)
+exchanged m n r = withField m (fieldHeld r n) (withField n (fieldHeld r m) r)
 
 -- ---- writers
 
