@@ -2,25 +2,29 @@
 ghost use Prim.Native.Nat.{_≤_};
 ghost use mathlib.Core.Path.{_≡_};
 ghost use mathlib.Core.Bool.{true};
+ghost use mathlib.Core.List.{[]};
 ghost use lib.ListN.{length};
 ghost use Rattle.table.specs.Tables.{sound, tableLength};
-ghost use Rattle.feed.specs.Steps.{holdLength, longest, roomAtEnd};
+ghost use Rattle.book.specs.Bytes.{bytesAfter};
+ghost use Rattle.feed.specs.Steps.{between, heldIn, holdLength, longest, roomAtEnd};
+ghost use Rattle.chunk.specs.Promises.{Ends, Takes};
 
-// What a chunk leaves for the next: how much is held, and the number of the piece to come.
+// What a chunk leaves for the next: how much is held, and the number of the piece to come; and whether all that was said is written out.
 pub struct Kept {
     pub held: usize,
     pub line: u64,
+    pub good: bool,
 }
 
 // The table before the first chunk.
 pub fn begin(t: &mut [u8])
     requires { ⌜ length (now t) ≡ tableLength 512 ⌝ }
-    ensures { λ _. ⌜ sound (now (t .exit)) ≡ true ⌝ }
+    ensures { λ _. ⌜ now (t .exit) ≡ bytesAfter (now (t .entry)) [] ⌝ }
 {
     table::make_empty(t);
 }
 
-// All of a chunk: one step after another, and what each says is written out before the next.
+// All of a chunk: one step after another, and what each says is written out before the next. A write that fails ends it.
 pub fn take(
     chunk: &[u8],
     t: &mut [u8],
@@ -33,14 +37,20 @@ pub fn take(
     requires { ⌜ length (now hold) ≡ holdLength ⌝ }
     requires { ⌜ held ≤ holdLength ⌝ }
     requires { ⌜ longest ≤ length (now out) ⌝ }
-    ensures { λ r. ⌜ (r .held ≤ holdLength) × (sound (now (t .exit)) ≡ true) × (length (now (hold .exit)) ≡ holdLength) ⌝ }
+    ensures { λ r. ⌜ Takes (between (heldIn (now (hold .entry)) held) line (now (t .entry))) (now (chunk .entry)) r (now (t .exit)) (now (hold .exit)) ⌝ }
 {
     let mut used = 0;
     let mut kept = held;
     let mut number = line;
     while used < chunk.len() {
         let fed = feed::step(&chunk[used..], t, hold, kept, number, out);
-        say(out, fed.wrote);
+        if !say(out, fed.wrote) {
+            return Kept {
+                held: fed.held,
+                line: fed.line,
+                good: false,
+            };
+        }
         used += fed.used;
         kept = fed.held;
         number = fed.line;
@@ -48,22 +58,25 @@ pub fn take(
     Kept {
         held: kept,
         line: number,
+        good: true,
     }
 }
 
-// The piece that is held, and the sheet.
-pub fn end(t: &mut [u8], hold: &[u8], held: usize, line: u64, out: &mut [u8])
+// The piece that is held, and the sheet. The answer says whether all of it is written out.
+pub fn end(t: &mut [u8], hold: &[u8], held: usize, line: u64, out: &mut [u8]) -> bool
     requires { ⌜ sound (now t) ≡ true ⌝ }
     requires { ⌜ length (now hold) ≡ holdLength ⌝ }
     requires { ⌜ held ≤ holdLength ⌝ }
     requires { ⌜ roomAtEnd ≤ length (now out) ⌝ }
+    ensures { λ _. ⌜ Ends (between (heldIn (now (hold .entry)) held) line (now (t .entry))) (now (out .entry)) (now (t .exit)) (now (out .exit)) ⌝ }
 {
     let n = feed::finish(t, hold, held, line, out);
-    say(out, n);
+    say(out, n)
 }
 
-fn say(out: &[u8], n: usize)
+// Whether all n bytes are written out.
+fn say(out: &[u8], n: usize) -> bool
     requires { ⌜ n ≤ length (now out) ⌝ }
 {
-    io::write_all(libc::STDOUT_FILENO, &out[0..n]);
+    io::write_all(libc::STDOUT_FILENO, &out[0..n])
 }

@@ -3,9 +3,11 @@
 ghost use Prim.Native.Nat.{_≤_};
 ghost use mathlib.Core.Path.{_≡_};
 ghost use mathlib.Core.Bool.{true};
+ghost use mathlib.Core.List.{[]};
 ghost use lib.ListN.{length};
 ghost use Rattle.table.specs.Tables.{sound, tableLength};
-ghost use Rattle.feed.specs.Steps.{holdLength, roomAtEnd};
+ghost use Rattle.feed.specs.Steps.{between, holdLength, roomAtEnd};
+ghost use Rattle.chunk.specs.Promises.{Prints, Reads};
 use chunk::Kept;
 
 fn table_buffer() -> [u8; table::TABLE]
@@ -22,37 +24,74 @@ fn main() {
     run(&mut table, &mut hold, &mut input, &mut out);
 }
 
-fn run(t: &mut [u8], hold: &mut [u8], input: &mut [u8], out: &mut [u8])
+// Whether all is printed. If not, nothing more is written than the line that says why.
+fn run(t: &mut [u8], hold: &mut [u8], input: &mut [u8], out: &mut [u8]) -> bool
     requires { ⌜ length (now t) ≡ tableLength 512 ⌝ }
     requires { ⌜ length (now hold) ≡ holdLength ⌝ }
     requires { ⌜ roomAtEnd ≤ length (now out) ⌝ }
+    ensures { λ r. ⌜ (r ≡ true → Prints (now (t .entry)) (now (out .exit))) ⌝ }
 {
     chunk::begin(t);
     let kept = read_all(t, hold, input, out);
-    chunk::end(t, hold, kept.held, kept.line, out);
+    if !kept.good {
+        return false;
+    }
+    if !chunk::end(t, hold, kept.held, kept.line, out) {
+        unwritten();
+        return false;
+    }
+    true
 }
 
-// Chunk after chunk. A failed read counts as the end of the input. A proved loop has to end, and nothing says that the input does, so it counts its
-// turns down from a number that no run uses up.
+// Chunk after chunk to the end of the input. A proved loop has to end, and nothing says that the input does, so it counts its turns down from a
+// number that no run uses up; one that did would not have read its input.
 fn read_all(t: &mut [u8], hold: &mut [u8], input: &mut [u8], out: &mut [u8]) -> Kept
     requires { ⌜ sound (now t) ≡ true ⌝ }
     requires { ⌜ length (now hold) ≡ holdLength ⌝ }
     requires { ⌜ roomAtEnd ≤ length (now out) ⌝ }
-    ensures { λ r. ⌜ (r .held ≤ holdLength) × (sound (now (t .exit)) ≡ true) × (length (now (hold .exit)) ≡ holdLength) ⌝ }
+    ensures { λ r. ⌜ Reads (between [] 1 (now (t .entry))) r (now (t .exit)) (now (hold .exit)) ⌝ }
 {
     let mut held = 0;
     let mut line = 1;
     let mut turns = u64::MAX;
     while turns > 0 {
         let got = libc::read(libc::STDIN_FILENO, input);
-        let n = io::count(got, input);
-        if n == 0 {
+        if got < 0 {
             break;
         }
+        let n = io::count(got, input);
+        if n == 0 {
+            return Kept {
+                held,
+                line,
+                good: true,
+            };
+        }
         let kept = chunk::take(&input[0..n], t, hold, held, line, out);
+        if !kept.good {
+            unwritten();
+            return kept;
+        }
         held = kept.held;
         line = kept.line;
         turns -= 1;
     }
-    Kept { held, line }
+    unread();
+    Kept {
+        held,
+        line,
+        good: false,
+    }
+}
+
+// A program has no exit status: a line on standard error says that it failed.
+fn unread() {
+    io::write_all(libc::STDERR_FILENO, b"sheet: the input could not be read\n");
+}
+
+fn unwritten() {
+    io::write_all(
+        libc::STDERR_FILENO,
+        b"sheet: the output could not be written\n",
+    );
 }

@@ -74,7 +74,7 @@ fn feed_in(text: &[u8], sizes: &[u8], room: usize, t: &mut [u8], hold: &mut [u8]
     chunk::end(t, hold, kept.held, kept.line, out);
 }
 
-// The sizes are taken in turn, and from the first again when they are used up.
+// The sizes are taken in turn, and from the first again when they are used up. A write that fails shows where the output is compared.
 fn feed_chunks(text: &[u8], sizes: &[u8], t: &mut [u8], hold: &mut [u8], out: &mut [u8]) -> Kept
     requires { ⌜ 2 ≤ length (now sizes) ⌝ }
     requires { ⌜ sound (now t) ≡ true ⌝ }
@@ -84,7 +84,11 @@ fn feed_chunks(text: &[u8], sizes: &[u8], t: &mut [u8], hold: &mut [u8], out: &m
 {
     let mut at = 0;
     let mut turn = 0;
-    let mut kept = Kept { held: 0, line: 1 };
+    let mut kept = Kept {
+        held: 0,
+        line: 1,
+        good: true,
+    };
     while at < text.len() {
         let n = chunk_length(sizes, turn, text.len() - at);
         kept = chunk::take(&text[at..at + n], t, hold, kept.held, kept.line, out);

@@ -1,27 +1,26 @@
 -- `chunk::take` meets its contract. Each step uses a byte or more of what is left of the chunk, so the turns end.
-use Prim.Native.Nat.{_-_, _≤_}
+use Prim.Native.Nat.{_-_}
 use native.Mathlib.Omega.{arith}
-use mathlib.Core.Path.{_≡_, _∙_}
-use mathlib.Core.Bool.{true}
 use borrow.Author.Needs.{needs}
 use denote.Ref.{now}
 use lib.ListN.{length}
-use Rattle.table.specs.Tables.{sound}
 use Rattle.book.proofs.Sound.{sound-holds}
-use Rattle.feed.specs.Steps.{between, heldIn, holdLength}
-use Rattle.feed.proofs.Advancing.{took}
+use Rattle.feed.specs.Steps.{between, heldIn}
+use Rattle.chunk.proofs.Turns.{Turn, first-turn, one-step, next-turn, stopped, all-taken}
 use Rattle.chunk.proofs.take.Statement.{statement}
 use Rattle.chunk.proofs.take.Tie as tie
 
 abbrev Inv-loop : tie.InvT-loop
 Inv-loop chunk t₀ hold₀ held line out₀ used₀ kept₀ number₀ t hold out used kept number =
-    (used ≤ length chunk) × (sound t ≡ true) × (length hold ≡ holdLength) × (kept ≤ holdLength) × (length out ≡ length out₀)
+    Turn (between (heldIn hold₀ held) line t₀) chunk out₀ t hold out used kept number
 
 abbrev μ-loop : tie.MeasureT-loop
 μ-loop chunk t₀ hold₀ held line out₀ used₀ kept₀ number₀ t hold out used kept number = length chunk - used
 
 loop-holds : tie.Need-loop-holds Inv-loop μ-loop
-loop-holds c = search needs
+loop-holds c =
+    let a = c .before .before .before .before .args in
+    first-turn (now (a .chunk)) (now (a .t)) (now (a .hold)) (now (a .out)) (a .held) (a .line) (c .before .before .before .before .pre .0) (search needs) (search needs)
 
 sub-step : tie.Need-sub-step Inv-loop μ-loop
 sub-step c = search needs
@@ -36,42 +35,12 @@ step-requires : tie.Need-step-requires Inv-loop μ-loop
 step-requires c κs = search needs
 
 say-requires : tie.Need-say-requires Inv-loop μ-loop
-say-requires c κs =
-    let turn = c .before .before .before .before .before .before .before .before .before .before .before .before .before .loop in
-    let a = c .before .before .before .before .before .before .before .before .before .before .before .before .before .before .before .before .before .before .args in
-    let x = between (heldIn (turn .hold) (turn .kept)) (turn .number) (turn .t) in
-    let k = took (now (a .chunk)) (turn .used) x (turn .out) (c .before .before .before .before .before .before .before .before .before .before .before .before .loop-test .taken) (search needs) (c .before .before .before .before .before .before .before .step .ensures .0) in
-    k .wrote
-
-add-used : tie.Need-add-used Inv-loop μ-loop
-add-used c =
-    let turn = c .before .before .before .before .before .before .before .before .before .before .before .before .before .before .before .loop in
-    let a = c .before .before .before .before .before .before .before .before .before .before .before .before .before .before .before .before .before .before .before .before .args in
-    let x = between (heldIn (turn .hold) (turn .kept)) (turn .number) (turn .t) in
-    let k = took (now (a .chunk)) (turn .used) x (turn .out) (c .before .before .before .before .before .before .before .before .before .before .before .before .before .before .loop-test .taken) (search needs) (c .before .before .before .before .before .before .before .before .before .step .ensures .0) in
-    search (needs, k)
-
-loop-less : tie.Need-loop-less Inv-loop μ-loop
-loop-less c =
-    let turn = c .before .before .before .before .before .before .before .before .before .before .before .before .before .before .before .loop in
-    let a = c .before .before .before .before .before .before .before .before .before .before .before .before .before .before .before .before .before .before .before .before .args in
-    let x = between (heldIn (turn .hold) (turn .kept)) (turn .number) (turn .t) in
-    let k = took (now (a .chunk)) (turn .used) x (turn .out) (c .before .before .before .before .before .before .before .before .before .before .before .before .before .before .loop-test .taken) (search needs) (c .before .before .before .before .before .before .before .before .before .step .ensures .0) in
-    omega (arith, k .inside, k .some)
-
-loop-again : tie.Need-loop-again Inv-loop μ-loop
-loop-again c =
-    let turn = c .before .before .before .before .before .before .before .before .before .before .before .before .before .before .before .loop in
-    let a = c .before .before .before .before .before .before .before .before .before .before .before .before .before .before .before .before .before .before .before .before .args in
-    let x = between (heldIn (turn .hold) (turn .kept)) (turn .number) (turn .t) in
-    let step = c .before .before .before .before .before .before .before .before .before .step .ensures in
-    let k = took (now (a .chunk)) (turn .used) x (turn .out) (c .before .before .before .before .before .before .before .before .before .before .before .before .before .before .loop-test .taken) (search needs) (step .0) in
-    (k .inside, step .1, step .0 .long, step .0 .few, k .same ∙ turn .inv .4)
+say-requires c κs = one-step (c .before .before .before .before .before .before .before .before .before .before .before .before .before .loop .inv) (c .before .before .before .before .before .before .before .before .before .before .before .before .loop-test .taken) (search needs) (c .before .before .before .before .before .before .before .step .ensures .0) .wrote
 
 same-length : tie.Need-same-length Inv-loop μ-loop
 same-length c =
-    let turn = c .before .loop in
-    omega (arith, sound-holds (now (c .before .before .before .before .before .before .args .t)) (c .before .before .before .before .before .before .pre .0) .0 .long, sound-holds (turn .t) (turn .inv .1) .0 .long)
+    let turn = c .before .before .before .before .before .before .before .before .before .before .before .before .before .before .before .loop in
+    omega (arith, sound-holds (now (c .before .before .before .before .before .before .before .before .before .before .before .before .before .before .before .before .before .before .before .before .args .t)) (c .before .before .before .before .before .before .before .before .before .before .before .before .before .before .before .before .before .before .before .before .pre .0) .0 .long, sound-holds (turn .t) (turn .inv .good) .0 .long)
 
 same-length-2 : tie.Need-same-length-2 Inv-loop μ-loop
 same-length-2 c = search needs
@@ -80,7 +49,37 @@ same-length-3 : tie.Need-same-length-3 Inv-loop μ-loop
 same-length-3 c = search needs
 
 returns : tie.Need-returns Inv-loop μ-loop
-returns c = search needs
+returns c =
+    let a = c .before .before .before .before .before .before .before .before .before .before .before .before .before .before .before .before .before .before .before .before .args in
+    let step = c .before .before .before .before .before .before .before .before .before .step .ensures in
+    stopped (between (heldIn (now (a .hold)) (a .held)) (a .line) (now (a .t))) (now (a .chunk)) (step .0 .few) (step .0 .long) (step .1)
+
+add-used : tie.Need-add-used Inv-loop μ-loop
+add-used c = search (needs, one-step (c .before .before .before .before .before .before .before .before .before .before .before .before .before .before .before .before .loop .inv) (c .before .before .before .before .before .before .before .before .before .before .before .before .before .before .before .loop-test .taken) (search needs) (c .before .before .before .before .before .before .before .before .before .before .step .ensures .0))
+
+loop-less : tie.Need-loop-less Inv-loop μ-loop
+loop-less c =
+    let k = one-step (c .before .before .before .before .before .before .before .before .before .before .before .before .before .before .before .before .loop .inv) (c .before .before .before .before .before .before .before .before .before .before .before .before .before .before .before .loop-test .taken) (search needs) (c .before .before .before .before .before .before .before .before .before .before .step .ensures .0) in
+    omega (arith, k .inside, k .some)
+
+loop-again : tie.Need-loop-again Inv-loop μ-loop
+loop-again c =
+    let step = c .before .before .before .before .before .before .before .before .before .before .step .ensures in
+    next-turn (c .before .before .before .before .before .before .before .before .before .before .before .before .before .before .before .before .loop .inv) (c .before .before .before .before .before .before .before .before .before .before .before .before .before .before .before .loop-test .taken) (search needs) (step .0) (step .1)
+
+same-length-4 : tie.Need-same-length-4 Inv-loop μ-loop
+same-length-4 c =
+    let turn = c .before .loop in
+    omega (arith, sound-holds (now (c .before .before .before .before .before .before .args .t)) (c .before .before .before .before .before .before .pre .0) .0 .long, sound-holds (turn .t) (turn .inv .good) .0 .long)
+
+same-length-5 : tie.Need-same-length-5 Inv-loop μ-loop
+same-length-5 c = search needs
+
+same-length-6 : tie.Need-same-length-6 Inv-loop μ-loop
+same-length-6 c = search needs
+
+returns-2 : tie.Need-returns-2 Inv-loop μ-loop
+returns-2 c = all-taken (c .before .loop .inv) (c .loop-test .left)
 
 pub take-spec : {M : Type 1} → statement M
 take-spec =
@@ -94,10 +93,14 @@ take-spec =
     part-step-end
     step-requires
     say-requires
-    add-used
-    loop-less
-    loop-again
     same-length
     same-length-2
     same-length-3
-    returns)
+    returns
+    add-used
+    loop-less
+    loop-again
+    same-length-4
+    same-length-5
+    same-length-6
+    returns-2)

@@ -1,26 +1,28 @@
--- `drop_sheet::read_all` meets its contract. The measure is the number of turns that are left.
-use Prim.Native.Nat.{_≤_}
-use native.Mathlib.Omega.{arith}
+-- `drop_sheet::read_all` meets its contract: chunk after chunk, what is read is one text. The measure is the number of turns that are left.
 use mathlib.Core.Path.{_≡_}
-use mathlib.Core.Bool.{true}
+use mathlib.Core.List.{[]}
+use mathlib.Core.Logic.{⊎-elim}
 use borrow.Author.Needs.{needs}
+use borrow.Author.Tests.{not-false}
 use denote.Ref.{now}
 use lib.ListN.{length}
-use Rattle.table.specs.Tables.{sound}
-use Rattle.book.proofs.Sound.{sound-holds}
-use Rattle.feed.specs.Steps.{holdLength}
+use Rattle.feed.specs.Steps.{between}
+use Rattle.chunk.specs.Promises.{Reads}
+use Rattle.chunk.proofs.Leading.{gone, nothing-read, more-read, goes-on, unread}
 use Rattle.drop_sheet.proofs.read_all.Statement.{statement}
 use Rattle.drop_sheet.proofs.read_all.Tie as tie
 
 abbrev Inv-loop : tie.InvT-loop
 Inv-loop t₀ hold₀ input₀ out₀ held₀ line₀ turns₀ t hold input out held line turns =
-    (sound t ≡ true) × (length hold ≡ holdLength) × (held ≤ holdLength) × (length input ≡ length input₀) × (length out ≡ length out₀)
+    Reads (between [] 1 t₀) (gone held line) t hold × (length t ≡ length t₀) × (length input ≡ length input₀) × (length out ≡ length out₀)
 
 abbrev μ-loop : tie.MeasureT-loop
 μ-loop t₀ hold₀ input₀ out₀ held₀ line₀ turns₀ t hold input out held line turns = turns
 
 loop-holds : tie.Need-loop-holds Inv-loop μ-loop
-loop-holds c = search needs
+loop-holds c =
+    let a = c .before .before .before .before .args in
+    (nothing-read (now (a .hold)) (now (a .t)) 1 (search needs) (c .before .before .before .before .pre .0), search needs, search needs, search needs)
 
 read-requires : tie.Need-read-requires Inv-loop μ-loop
 read-requires c κs = search needs
@@ -28,31 +30,8 @@ read-requires c κs = search needs
 count-requires : tie.Need-count-requires Inv-loop μ-loop
 count-requires c κs = search needs
 
-sub-take : tie.Need-sub-take Inv-loop μ-loop
-sub-take c = search needs
-
-part-take-start : tie.Need-part-take-start Inv-loop μ-loop
-part-take-start c = search needs
-
-part-take-end : tie.Need-part-take-end Inv-loop μ-loop
-part-take-end c = search needs
-
-take-requires : tie.Need-take-requires Inv-loop μ-loop
-take-requires c κs = (c .before .before .before .before .before .before .before .before .before .before .before .before .before .loop .inv .0, (search needs, (search needs, search needs)))
-
-sub-turns : tie.Need-sub-turns Inv-loop μ-loop
-sub-turns c = search needs
-
-loop-less : tie.Need-loop-less Inv-loop μ-loop
-loop-less c = search needs
-
-loop-again : tie.Need-loop-again Inv-loop μ-loop
-loop-again c = (c .before .before .before .before .before .before .take .ensures .1, search needs, search needs, search needs, search needs)
-
 same-length : tie.Need-same-length Inv-loop μ-loop
-same-length c =
-    let turn = c .before .loop in
-    omega (arith, sound-holds (now (c .before .before .before .before .before .before .args .t)) (c .before .before .before .before .before .before .pre .0) .0 .long, sound-holds (turn .t) (turn .inv .0) .0 .long)
+same-length c = search needs
 
 same-length-2 : tie.Need-same-length-2 Inv-loop μ-loop
 same-length-2 c = search needs
@@ -64,12 +43,27 @@ same-length-4 : tie.Need-same-length-4 Inv-loop μ-loop
 same-length-4 c = search needs
 
 returns : tie.Need-returns Inv-loop μ-loop
-returns c = search needs
+returns c = c .before .before .before .before .before .before .before .before .before .loop .inv .0
+
+sub-take : tie.Need-sub-take Inv-loop μ-loop
+sub-take c = search needs
+
+part-take-start : tie.Need-part-take-start Inv-loop μ-loop
+part-take-start c = search needs
+
+part-take-end : tie.Need-part-take-end Inv-loop μ-loop
+part-take-end c = search needs
+
+take-requires : tie.Need-take-requires Inv-loop μ-loop
+take-requires c κs =
+    let read = c .before .before .before .before .before .before .before .before .before .before .before .before .before .before .loop .inv .0 .takes in
+    (read .sound, (read .long, (read .few, search needs)))
+
+unwritten-requires : tie.Need-unwritten-requires Inv-loop μ-loop
+unwritten-requires c κs = search needs
 
 same-length-5 : tie.Need-same-length-5 Inv-loop μ-loop
-same-length-5 c =
-    let turn = c .before .before .before .before .before .before .before .before .loop in
-    omega (arith, sound-holds (now (c .before .before .before .before .before .before .before .before .before .before .before .before .before .args .t)) (c .before .before .before .before .before .before .before .before .before .before .before .before .before .pre .0) .0 .long, sound-holds (turn .t) (turn .inv .0) .0 .long)
+same-length-5 c = search needs
 
 same-length-6 : tie.Need-same-length-6 Inv-loop μ-loop
 same-length-6 c = search needs
@@ -81,7 +75,36 @@ same-length-8 : tie.Need-same-length-8 Inv-loop μ-loop
 same-length-8 c = search needs
 
 returns-2 : tie.Need-returns-2 Inv-loop μ-loop
-returns-2 c = search needs
+returns-2 c = more-read (c .before .before .before .before .before .before .before .before .before .before .before .before .before .before .before .before .before .before .before .before .before .before .before .before .loop .inv .0) (c .before .before .before .before .before .before .before .before .before .take .ensures)
+
+sub-turns : tie.Need-sub-turns Inv-loop μ-loop
+sub-turns c = search needs
+
+loop-less : tie.Need-loop-less Inv-loop μ-loop
+loop-less c = search needs
+
+loop-again : tie.Need-loop-again Inv-loop μ-loop
+loop-again c =
+    let one = c .before .before .before .before .before .before .before .before .take in
+    (goes-on (not-false (one .result .good) (c .if3 .left)) (more-read (c .before .before .before .before .before .before .before .before .before .before .before .before .before .before .before .before .before .before .before .before .before .before .before .loop .inv .0) (one .ensures)), search needs, search needs, search needs)
+
+unread-requires : tie.Need-unread-requires Inv-loop μ-loop
+unread-requires c κs = search needs
+
+same-length-9 : tie.Need-same-length-9 Inv-loop μ-loop
+same-length-9 c = search needs
+
+same-length-10 : tie.Need-same-length-10 Inv-loop μ-loop
+same-length-10 c = search needs
+
+same-length-11 : tie.Need-same-length-11 Inv-loop μ-loop
+same-length-11 c = ⊎-elim (λ w. search needs) (λ w. search needs) (c .before .loop-test .came)
+
+same-length-12 : tie.Need-same-length-12 Inv-loop μ-loop
+same-length-12 c = search needs
+
+returns-3 : tie.Need-returns-3 Inv-loop μ-loop
+returns-3 c = unread (c .before .before .loop .inv .0)
 
 pub read-all-spec : {M : Type 1} → statement M
 read-all-spec =
@@ -92,20 +115,27 @@ read-all-spec =
     loop-holds
     read-requires
     count-requires
-    sub-take
-    part-take-start
-    part-take-end
-    take-requires
-    sub-turns
-    loop-less
-    loop-again
     same-length
     same-length-2
     same-length-3
     same-length-4
     returns
+    sub-take
+    part-take-start
+    part-take-end
+    take-requires
+    unwritten-requires
     same-length-5
     same-length-6
     same-length-7
     same-length-8
-    returns-2)
+    returns-2
+    sub-turns
+    loop-less
+    loop-again
+    unread-requires
+    same-length-9
+    same-length-10
+    same-length-11
+    same-length-12
+    returns-3)

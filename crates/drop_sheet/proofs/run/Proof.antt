@@ -1,5 +1,13 @@
--- `drop_sheet::run` meets its contract: the table is sound at the start, the chunks keep it so, and the end of the text has room.
+-- `drop_sheet::run` meets its contract: from the empty table, over what is read, to the end.
+use Prim.Native.Nat.{_≤_}
+use native.Mathlib.Omega.{arith}
+use mathlib.Core.Bool.{false≢true}
 use borrow.Author.Needs.{needs}
+use borrow.Author.Tests.{not-false}
+use denote.Ref.{now}
+use lib.ListN.{length}
+use Rattle.feed.specs.Steps.{roomAtEnd}
+use Rattle.chunk.proofs.Leading.{begun-sound, all-printed}
 use Rattle.drop_sheet.proofs.run.Statement.{statement}
 use Rattle.drop_sheet.proofs.run.Tie as tie
 
@@ -7,12 +15,8 @@ begin-requires : tie.Need-begin-requires
 begin-requires c κs = search needs
 
 read-all-requires : tie.Need-read-all-requires
-read-all-requires c κs = search needs
-
-end-requires : tie.Need-end-requires
-end-requires c κs =
-    let all = c .before .before .before .before .before .before .before .before .before .before .before .read-all .ensures in
-    (all .1, (all .2, (all .0, search needs)))
+read-all-requires c κs =
+    (begun-sound (now (c .before .before .before .before .before .before .before .before .before .before .before .before .args .t)) (c .before .before .before .before .before .before .begin .ensures) (c .before .before .before .before .before .before .before .before .before .before .before .before .pre .0), (search needs, search needs))
 
 same-length : tie.Need-same-length
 same-length c = search needs
@@ -27,7 +31,70 @@ same-length-4 : tie.Need-same-length-4
 same-length-4 c = search needs
 
 returns : tie.Need-returns
-returns c = search needs
+returns c = λ e. absurd (false≢true e)
+
+end-requires : tie.Need-end-requires
+end-requires c κs =
+    let read = c .before .before .before .before .before .before .before .before .before .before .before .before .before .read-all .ensures .takes in
+    (read .sound, (read .long, (read .few, search needs)))
+
+unwritten-requires : tie.Need-unwritten-requires
+unwritten-requires c κs = search needs
+
+same-length-5 : tie.Need-same-length-5
+same-length-5 c = search needs
+
+same-length-6 : tie.Need-same-length-6
+same-length-6 c = search needs
+
+same-length-7 : tie.Need-same-length-7
+same-length-7 c = search needs
+
+same-length-8 : tie.Need-same-length-8
+same-length-8 c = search needs
+
+returns-2 : tie.Need-returns-2
+returns-2 c = λ e. absurd (false≢true e)
+
+same-length-9 : tie.Need-same-length-9
+same-length-9 c = search needs
+
+same-length-10 : tie.Need-same-length-10
+same-length-10 c = search needs
+
+same-length-11 : tie.Need-same-length-11
+same-length-11 c = search needs
+
+same-length-12 : tie.Need-same-length-12
+same-length-12 c = search needs
+
+returns-3 : tie.Need-returns-3
+returns-3 c =
+    let start = c .before .before .before .before .before .before .before .before .before .before .before .before .before .before .before .before .before .before .before .before .before .before .before .before .before .before .before .before .before .before .before .before in
+    let read = c .before .before .before .before .before .before .before .before .before .before .before .before .before .before .before .before .before .before .before .read-all in
+    let room : roomAtEnd ≤ length (read .last .1 .1 .1 .0) = omega (arith, read .kept .1 .1 .1 .0, start .pre .1 .1) in
+    λ _. all-printed (now (start .args .t)) (c .before .before .before .before .before .before .before .before .before .before .before .before .before .before .before .before .before .before .before .before .before .before .before .before .before .before .begin .ensures) (read .ensures) (not-false (read .result .good) (c .before .before .before .before .before .before .before .before .before .if1 .left)) (c .before .before .before .before .before .end .ensures) room
 
 pub run-spec : {M : Type 1} → statement M
-run-spec = tie.close (tie.spec begin-requires read-all-requires end-requires same-length same-length-2 same-length-3 same-length-4 returns)
+run-spec =
+    tie.close
+    (tie.spec
+    begin-requires
+    read-all-requires
+    same-length
+    same-length-2
+    same-length-3
+    same-length-4
+    returns
+    end-requires
+    unwritten-requires
+    same-length-5
+    same-length-6
+    same-length-7
+    same-length-8
+    returns-2
+    same-length-9
+    same-length-10
+    same-length-11
+    same-length-12
+    returns-3)

@@ -59,10 +59,10 @@ loop-again c =
     let inv = c .before .before .before .before .before .before .before .before .before .before .before .before .before .before .loop .inv in (
       search needs,
       omega (arith, c .next-turn .ensures),
-      one .ensures .0,
-      one .ensures .1,
+      one .ensures .few,
+      one .ensures .sound,
       one .kept .1 .0 ∙ inv .4,
-      one .ensures .2,
+      one .ensures .long,
       omega (arith, one .kept .1 .1 .1 .1 .1 .0, inv .6),
       one .kept .1 .1 .1 .1 .1 .0 ∙ inv .7,
     )

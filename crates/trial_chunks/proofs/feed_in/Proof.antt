@@ -4,6 +4,7 @@ use native.Mathlib.Omega.{arith}
 use borrow.Author.Needs.{needs}
 use borrow.Rule.Slice.PartMut.{same-len-mid}
 use denote.Ref.{now}
+use Rattle.chunk.proofs.Leading.{begun-sound}
 use Rattle.trial_chunks.proofs.feed_in.Statement.{statement}
 use Rattle.trial_chunks.proofs.feed_in.Tie as tie
 
@@ -20,7 +21,9 @@ part-feed-chunks-end : tie.Need-part-feed-chunks-end
 part-feed-chunks-end c = search needs
 
 feed-chunks-requires : tie.Need-feed-chunks-requires
-feed-chunks-requires c κs = (search needs, (c .before .before .before .before .before .begin .ensures, (search needs, search needs)))
+feed-chunks-requires c κs =
+    let start = c .before .before .before .before .before .before .before .before .before .before .before .before in
+    (search needs, (begun-sound (now (start .args .t)) (c .before .before .before .before .before .begin .ensures) (start .pre .1 .1 .0), (search needs, search needs)))
 
 end-requires : tie.Need-end-requires
 end-requires c κs =
