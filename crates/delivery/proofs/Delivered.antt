@@ -1,5 +1,5 @@
 -- A day by the promises reaches the bytes of demand 3: its answers, its sheet, and what the program prints.
-use Prim.Native.Nat.{ℕ, _+_, _≤_}
+use Prim.Native.Nat.{ℕ, _+_, _≤_, _<_}
 use native.Mathlib.Nat.{zero-add}
 use native.Mathlib.Omega.{arith}
 use mathlib.Core.Path.{_≡_, refl, sym, ap, ap₂, subst, subst₂, _∙_}
@@ -10,9 +10,9 @@ use lib.ListN.{length, drop}
 use lib.Seq.{sets, sets-eq}
 use Rattle.refusal.specs.Answer.{Answer, value, refused}
 use Rattle.layout.specs.Line.{read}
-use Rattle.day.specs.Demand3.{IsAnswer, IsSheet, joined, tableAfter, answerTo, historyAfter}
-use Rattle.day.specs.History.{History}
-use Rattle.day.specs.Listing.{Sheet}
+use Rattle.day.specs.Demand3.{IsAnswer, IsSheet, AddsUp, joined, tableAfter, answerTo, historyAfter}
+use Rattle.day.specs.History.{History, ordersOf}
+use Rattle.day.specs.Listing.{membersOf, Each, shown}
 use Rattle.day.specs.Machine.{book}
 use Rattle.day.specs.Tables.{Table, empty}
 use Rattle.day.specs.Walk.{sheetOf}
@@ -107,6 +107,9 @@ module _ (before : List ℕ) (long : length before ≡ tableLength 512) where
         sheet = sheetOf (tableIn table);
         so = subst₂ (λ (a : History) (u : Table). IsSheet a (sheetOf u)) (sym h) (sym t) (demand3 512 .sheet-so ps);
         only-so = λ s x. demand3 512 .only-so ps s (subst (λ (a : History). IsSheet a s) h x) ∙ ap sheetOf (sym t);
+        each-once = subst₂ (λ (a : History) (u : Table). (i : ℕ) → i < length (ordersOf a) → shown i (membersOf (sheetOf u .rows)) ≡ 1) (sym h) (sym t) (demand3 512 .each-once ps);
+        no-other = subst₂ (λ (a : History) (u : Table). (i : ℕ) → length (ordersOf a) ≤ i → shown i (membersOf (sheetOf u .rows)) ≡ 0) (sym h) (sym t) (demand3 512 .no-other ps);
+        adds-up = subst (λ (u : Table). Each AddsUp (sheetOf u .rows)) (sym t) (demand3 512 .adds-up ps);
         written = λ out x after p room. sheet-written table (still-sound d) out room p;
         room = sheet-bound table (still-sound d);
       }

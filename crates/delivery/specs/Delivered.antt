@@ -1,14 +1,14 @@
 -- The tender's demand 3 at the bytes: what a host gets who makes a table, books pieces and asks the sheet by the promises of the entries, and what the
 -- sheet program prints. proofs/Delivered.antt proves it.
-use Prim.Native.Nat.{ℕ, _+_, _≤_}
+use Prim.Native.Nat.{ℕ, _+_, _≤_, _<_}
 use mathlib.Core.Path.{_≡_}
 use mathlib.Core.List.{List, [], _∷_, _++_}
 use lib.ListN.{length, drop}
 use Rattle.refusal.specs.Answer.{value}
 use Rattle.layout.specs.Line.{read}
-use Rattle.day.specs.Demand3.{IsAnswer, IsSheet, joined}
-use Rattle.day.specs.History.{History}
-use Rattle.day.specs.Listing.{Sheet}
+use Rattle.day.specs.Demand3.{IsAnswer, IsSheet, AddsUp, joined}
+use Rattle.day.specs.History.{History, ordersOf}
+use Rattle.day.specs.Listing.{Sheet, membersOf, Each, shown}
 use Rattle.table.specs.Promises.{Makes}
 use Rattle.table.specs.Tables.{tableLength}
 use Rattle.table.specs.declared.Made.{Made}
@@ -53,6 +53,11 @@ pub record Shows (h : History) (table : List ℕ) : Type 0 where
   pub sheet : Sheet
   pub so : IsSheet h sheet
   pub only-so : (s : Sheet) → IsSheet h s → s ≡ sheet
+  -- "every accepted order once and no other"
+  pub each-once : (i : ℕ) → i < length (ordersOf h) → shown i (membersOf (sheet .rows)) ≡ 1
+  pub no-other : (i : ℕ) → length (ordersOf h) ≤ i → shown i (membersOf (sheet .rows)) ≡ 0
+  -- "and size equals executed plus cancelled plus passed on plus open"
+  pub adds-up : Each AddsUp (sheet .rows)
   -- "Given room": its text is written, and only the bytes it needs, from the front
   pub written : (out : List ℕ) (x : Writing) (after : List ℕ) → Sheets table out x after → length (textOfSheet sheet) ≤ length out
       → (writingOf x ≡ value (length (textOfSheet sheet))) × (after ≡ textOfSheet sheet ++ drop (length (textOfSheet sheet)) out)
