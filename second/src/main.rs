@@ -1,34 +1,20 @@
-//! The second program of Skurzelt, written from the papers alone. It answers the same cases as
-//! the proved program, so that two independent readings of the papers can be compared.
+//! The second program of Skurzelt, written from the papers alone: two independent readings of them can be compared.
 
 mod cases;
-mod check;
-mod clock;
-mod damages;
-mod day;
-mod days;
-mod hand;
-mod line;
-mod long_day;
-mod random;
-mod record;
-mod record_cases;
-mod refusal;
-mod sheet;
-mod shorthand;
-mod stream;
-mod strike;
-mod sum;
-mod table;
-mod table_cases;
-mod tables;
-mod text_cases;
-mod trial;
-mod vectors;
+mod rules;
+mod tests;
 
 use std::env;
 use std::io::{self, BufReader, BufWriter, Write};
 use std::process::ExitCode;
+
+use crate::cases::long_day;
+use crate::cases::set;
+use crate::cases::stream;
+use crate::cases::vectors;
+use crate::rules::sheet;
+use crate::rules::trial;
+use crate::tests::check;
 
 const USAGE: &str = "\
 usage: second sheet < CAPTURE | second stream SEED COUNT | second day SEED COUNT | second trial < CASES |
@@ -68,11 +54,11 @@ fn command(words: &[&str], output: &mut impl Write) -> io::Result<ExitCode> {
         }
         ["cases", seed, count] => {
             let (Ok(seed), Ok(count)) = (seed.parse(), count.parse()) else { return Ok(usage()) };
-            cases::write(seed, count, output)?;
+            set::write(seed, count, output)?;
         }
         ["random", seed, count] => {
             let (Ok(seed), Ok(count)) = (seed.parse(), count.parse()) else { return Ok(usage()) };
-            cases::write_random(seed, count, output)?;
+            set::write_random(seed, count, output)?;
         }
         ["vectors"] => vectors::write(output)?,
         ["check"] => {

@@ -1,17 +1,16 @@
-//! The tests of the day: captures with all that the sheet program prints for them, the papers' own
-//! first, and laws over random streams.
+//! The tests of the day: captures with all that the sheet program prints for them, and laws over random streams.
 
 use std::collections::BTreeSet;
 use std::io::{self, BufReader, ErrorKind, Read};
 
-use crate::check::Law;
-use crate::day::{Day, Figures, MOST};
-use crate::line::{CR_LF, LF, LINE};
-use crate::long_day;
-use crate::refusal::Refusal;
-use crate::sheet;
-use crate::shorthand::{capture, other, piece, OTHERS, WHOLE_CASE};
-use crate::stream;
+use crate::cases::long_day;
+use crate::cases::shorthand::{capture, other, piece, OTHERS, WHOLE_CASE};
+use crate::cases::stream;
+use crate::rules::day::{Day, Figures, MOST};
+use crate::rules::fields::{CR_LF, LF, LINE};
+use crate::rules::refusal::Refusal;
+use crate::rules::sheet;
+use crate::tests::law::Law;
 
 /// The streams of the laws.
 const SEEDS: u64 = 12;

@@ -3,8 +3,8 @@
 use std::io::{self, BufRead, ErrorKind, Write};
 use std::iter;
 
-use crate::day::{Day, Order};
-use crate::line::{LF, LINE};
+use crate::rules::day::{Day, Order};
+use crate::rules::fields::{LF, LINE};
 
 /// As much as is kept of a piece that straddles two chunks: a longer one is refused by its length.
 const KEPT: usize = LINE + 1;

@@ -1,13 +1,14 @@
 //! Cases about records as bytes: written into buffers of every size, and read from pieces.
 
-use std::io::{self, Write};
+use std::io::Write;
 use std::ops::Range;
 
-use crate::cases::{broken, contents, numbers_around, put, room_payload, spoiled, with, EDGES};
-use crate::line::{Field, BODY, CROSS_ID, CR_LF, DENOMINATOR, FIELDS, LINE, MATCH_ID, PRICE, STRIKE};
-use crate::random::Random;
-use crate::record::{Record, NUMBER, STORED};
-use crate::trial::LONGEST;
+use crate::cases::case::{put, room_payload, Written};
+use crate::cases::contents::{broken, contents, numbers_around, spoiled, with, EDGES};
+use crate::cases::random::Random;
+use crate::rules::fields::{Field, BODY, CROSS_ID, CR_LF, DENOMINATOR, FIELDS, LINE, MATCH_ID, PRICE, STRIKE};
+use crate::rules::record::{Record, NUMBER, STORED};
+use crate::rules::trial::LONGEST;
 
 /// Buffers for a line, and for a record.
 const LINE_ROOMS: [u16; 6] = [0, 1, 139, 140, 141, 300];
@@ -17,8 +18,6 @@ const RECORD_ROOMS: [u16; 7] = [0, 1, 137, 138, 139, 140, 300];
 const LENGTHS: [usize; 11] = [0, 1, 2, 8, 9, 129, STORED - 1, STORED + 1, LINE, 2 * STORED, 298];
 /// Bytes for every place of a number: none, the least, a space, and around a sign.
 const PARTS: &[u8] = b"\x00\x01\x20\x7F\x80\xFF";
-
-type Written = io::Result<()>;
 
 /// Writes the case of a record, given as bytes, that is written into so many bytes.
 fn put_write(room: u16, stored: &[u8], out: &mut impl Write) -> Written {

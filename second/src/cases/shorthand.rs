@@ -1,9 +1,8 @@
-//! Lines made by hand: one line of the papers with other contents in its fields, and the papers'
-//! shorthand for a capture.
+//! Lines made by hand: a line of the papers with other contents, and the papers' shorthand for a capture.
 
-use crate::cases;
-use crate::day::Key;
-use crate::line::{CR_LF, FIELDS};
+use crate::cases::contents;
+use crate::rules::day::Key;
+use crate::rules::fields::{CR_LF, FIELDS};
 
 /// A line of 001's own samples where they fit their fields, and of 01's vectors elsewhere.
 #[rustfmt::skip]
@@ -25,7 +24,7 @@ pub const OTHERS: [(usize, &str); 7] =
 /// A line with other contents in some of its fields, by number.
 pub fn with(line: &[u8], changes: &[(usize, &str)]) -> Vec<u8> {
     changes.iter().fold(line.to_vec(), |line, (number, content)| {
-        cases::with(&line, FIELDS[number - 1].places(), content.as_bytes())
+        contents::with(&line, FIELDS[number - 1].places(), content.as_bytes())
     })
 }
 

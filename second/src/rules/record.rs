@@ -1,7 +1,8 @@
 //! A record: the 24 fields of one event, kept as its 138 bytes (LAYOUT, A record).
 
-use crate::line::{self, Field, BODY, CROSS_ID, FIELDS, LETTERS, LIQUIDITY, MATCH_ID, TYPE};
-use crate::refusal::Refusal;
+use crate::rules::bytes::decimal;
+use crate::rules::fields::{Field, BODY, CROSS_ID, FIELDS, LETTERS, LIQUIDITY, MATCH_ID, TYPE};
+use crate::rules::refusal::Refusal;
 
 /// As many bytes as a line has fields' bytes: each field stands where it stands there.
 pub const STORED: usize = BODY;
@@ -13,8 +14,7 @@ pub const NUMBER: usize = 8;
 pub struct Record([u8; STORED]);
 
 impl Record {
-    /// The record that the bytes say. Bytes of another length say none: they leave no whole last field,
-    /// or stand behind it.
+    /// The record that the bytes say. Bytes of another length are none, and are refused by the last field.
     pub fn load(bytes: &[u8]) -> Result<Record, Refusal> {
         bytes.try_into().map(Record).map_err(|_| Refusal::Field(CROSS_ID))
     }
@@ -39,7 +39,7 @@ impl Record {
             let shown = &line[field.places()];
             if field.holds_number() {
                 // Right for a price too: without the spaces its bytes are the ten-thousandths.
-                record.set_number(field.number, line::decimal(shown));
+                record.set_number(field.number, decimal(shown));
             } else {
                 record.set(field.number, shown);
             }

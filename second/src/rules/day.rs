@@ -2,8 +2,9 @@
 
 use std::collections::HashMap;
 
-use crate::line::{self, Lawful, Line, CONTRACTS, PRICE, REPLACED_TOKEN, ROOT, SIDE, SOURCE, STRIKE, TOKEN};
-use crate::refusal::Refusal;
+use crate::rules::fields::{CONTRACTS, PRICE, REPLACED_TOKEN, ROOT, SIDE, SOURCE, STRIKE, TOKEN};
+use crate::rules::line::{self, Lawful, Line};
+use crate::rules::refusal::Refusal;
 
 /// The most orders that a table holds.
 pub const MOST: usize = 512;

@@ -1,15 +1,13 @@
 //! Writes cases about one table, and keeps it as the trial will hold it.
 
-use std::io::{self, Write};
+use std::io::Write;
 
-use crate::cases::put;
-use crate::shorthand::{key, piece};
-use crate::table::{self, SLOT};
+use crate::cases::case::{order_payload, patch_payload, put, Written};
+use crate::cases::shorthand::{key, piece};
+use crate::rules::table::{self, SLOT};
 
 /// A sheet's buffer with room for a few orders.
 const ROOM: u32 = 2_000;
-
-type Written = io::Result<()>;
 
 pub struct Hand<'a> {
     table: Vec<u8>,
@@ -97,12 +95,4 @@ impl Hand<'_> {
     pub fn ask_all(&mut self) -> Written {
         (0..6).try_for_each(|entry| self.ask(entry))
     }
-}
-
-pub fn patch_payload(at: u32, bytes: &[u8]) -> Vec<u8> {
-    [&at.to_le_bytes(), bytes].concat()
-}
-
-pub fn order_payload(place: u64, room: u16) -> Vec<u8> {
-    [&place.to_le_bytes()[..], &room.to_le_bytes()].concat()
 }

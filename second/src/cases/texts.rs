@@ -1,14 +1,14 @@
 //! Cases about texts: the next piece, all pieces, pieces by number, and the steps of the sheet program.
 
-use std::io::{self, Write};
+use std::io::Write;
 
-use crate::cases::put;
-use crate::day::Day;
-use crate::line::{BODY, CR_LF, LF, LINE};
-use crate::random::Random;
-use crate::shorthand::{capture, piece, WHOLE_CASE};
-use crate::stream::Stream;
-use crate::trial::LONGEST;
+use crate::cases::case::{capture_payload, piece_payload, put, Written};
+use crate::cases::random::Random;
+use crate::cases::shorthand::{capture, piece, WHOLE_CASE};
+use crate::cases::stream::Stream;
+use crate::rules::day::Day;
+use crate::rules::fields::{BODY, CR_LF, LF, LINE};
+use crate::rules::trial::LONGEST;
 
 /// What a step may write.
 const ROOMS: [u32; 4] = [64, 65, 100, 60_000];
@@ -22,8 +22,6 @@ const RANDOM_TEXTS: usize = 12;
 const PIECES: usize = 40;
 /// The longest piece of a random capture, or little less.
 const LONGEST_PIECE: usize = 1_500;
-
-type Written = io::Result<()>;
 
 /// Writes those that are no random ones.
 pub fn bounds(random: &mut Random, out: &mut impl Write) -> Written {
@@ -50,17 +48,6 @@ pub fn by_chance(random: &mut Random, out: &mut impl Write) -> Written {
     }
     put(out, b'n', b"random captures")?;
     random_captures(random, out)
-}
-
-/// The place or the number of a piece, and a text.
-pub fn piece_payload(number: u64, text: &[u8]) -> Vec<u8> {
-    [&number.to_le_bytes(), text].concat()
-}
-
-pub fn capture_payload(room: u32, sizes: &[u16], text: &[u8]) -> Vec<u8> {
-    let count = sizes.len() as u16;
-    let sizes: Vec<_> = sizes.iter().flat_map(|size| size.to_le_bytes()).collect();
-    [&room.to_le_bytes()[..], &count.to_le_bytes(), &sizes, text].concat()
 }
 
 // The next piece.

@@ -1,34 +1,24 @@
 //! Cases about lent tables: lengths, every refusal of booking, sheets, and random traffic.
 
-use std::io;
+use crate::cases::case::{order_payload, patch_payload, Written};
+use crate::cases::contents::{broken, with};
+use crate::cases::damages;
+use crate::cases::hand::Hand;
+use crate::cases::random::Random;
+use crate::cases::shorthand::{key, other, piece, OTHERS};
+use crate::cases::sound_tables::{day_of, full_table, junk, random_day, rich_table, stored, RICH_ORDERS};
+use crate::cases::stream::Stream;
+use crate::rules::day::{Day, MOST};
+use crate::rules::fields::{CR_LF, FIELDS, LF, LINE};
+use crate::rules::sheet;
+use crate::rules::table::{self, slot, HEADER, SLOT, TABLE};
+use crate::rules::trial::{LONGEST, LONGEST_TABLE, WIDEST_SHEET};
 
-use crate::cases::{self, broken, lawful_line};
-use crate::damages;
-use crate::day::{Day, Figures, Order, MOST};
-use crate::hand::{order_payload, patch_payload, Hand};
-use crate::line::{CR_LF, FIELDS, LF, LINE};
-use crate::random::Random;
-use crate::sheet;
-use crate::shorthand::{capture, key, other, piece, OTHERS};
-use crate::stream::Stream;
-use crate::table::{self, slot, HEADER, SLOT, TABLE};
-use crate::trial::{LONGEST, LONGEST_TABLE, WIDEST_SHEET};
-
-/// A family of three (T1, T3, T4), one of two (T5, T6), and single orders with all executed (T7), all
-/// cancelled (T8) and all open (T9). The second order, T2 of another Source, comes before T3.
-const RICH: [&str; 2] = [
-    "A T1 100; E T1 30; C T1 10; X T1 5",
-    "U T3 for T1, 60; E T3 20; C T3 20; X T3 1; U T4 for T3, 40; E T4 5; X T4 15; A T5 999999; \
-     U T6 for T5, 999999; A T7 1; E T7 1; A T8 12; X T8 12; A T9 50",
-];
-pub const RICH_ORDERS: usize = 9;
 /// How many tables the random traffic is booked on, and how many orders they begin with.
 const TABLES: usize = 16;
 const GIVEN: [usize; 8] = [0, 3, 40, 200, 400, 508, 511, 512];
 /// The longest piece of the traffic, or little less.
 const LONGEST_PIECE: usize = 2_000;
-
-type Written = io::Result<()>;
 
 /// Writes those that are no random ones.
 pub fn bounds(random: &mut Random, hand: &mut Hand) -> Written {
@@ -51,82 +41,6 @@ pub fn by_chance(count: u64, random: &mut Random, hand: &mut Hand) -> Written {
         traffic(day, count as usize / 4 / TABLES + 1, random, hand)?;
     }
     Ok(())
-}
-
-// Tables.
-
-fn junk(random: &mut Random, length: usize) -> Vec<u8> {
-    (0..length).map(|_| random.next() as u8).collect()
-}
-
-/// The day's table, its free slots holding any bytes.
-pub fn stored(day: &Day, random: &mut Random) -> Vec<u8> {
-    let mut table = junk(random, TABLE);
-    table::store(day, &mut table);
-    table
-}
-
-/// The day after lines that are all accepted.
-fn day_of(text: &[u8]) -> Day {
-    let mut day = Day::default();
-    for piece in text.split_inclusive(|byte| *byte == LF) {
-        day.book(piece).expect("the lines are lawful");
-    }
-    day
-}
-
-pub fn rich_table(random: &mut Random) -> Vec<u8> {
-    let unlike = other("A T2 7", &[(10, "AB D02"), (14, "S"), (16, "X     "), (20, "E"), (21, "000001")]);
-    stored(&day_of(&[capture(RICH[0]), unlike, capture(RICH[1])].concat()), random)
-}
-
-/// A table of 512 orders.
-pub fn full_table(random: &mut Random) -> Vec<u8> {
-    stored(&random_day(MOST, random), random)
-}
-
-/// A sound table of so many orders that no lines need lead to: elders anywhere earlier and of any
-/// side and series, any figures that add up, and now and then a key that is there already.
-pub fn random_day(orders: usize, random: &mut Random) -> Day {
-    let founding = *random.pick(&[1, 2, 8, 64]);
-    let mut all: Vec<Order> = Vec::with_capacity(orders);
-    let mut youngest: Vec<usize> = Vec::new();
-    for place in 0..orders {
-        let mut order = day_of(&lawful_line(b'A', random)).orders()[0].clone();
-        order.figures = spread(order.figures.size, random);
-        if place > 0 && random.once_in(32) {
-            order.key = random.pick(&all).key;
-        }
-        if place > 0 && !random.once_in(founding) {
-            let elder = youngest.swap_remove(random.below(youngest.len()));
-            let figures = &mut all[elder].figures;
-            figures.passed_on += figures.open;
-            figures.open = 0;
-            order.elder = Some(elder);
-        }
-        youngest.push(place);
-        all.push(order);
-    }
-    Day::of(all, random.once_in(24))
-}
-
-/// Half the time all of a size is open, else it is cut into four parts at any places.
-fn spread(size: u32, random: &mut Random) -> Figures {
-    let mut cuts = [0; 3];
-    if random.once_in(2) {
-        cuts.fill_with(|| random.below(size as usize + 1) as u32);
-        cuts.sort_unstable();
-    }
-    let [executed, cancelled, passed_on] = cuts;
-    let broken = random.below(executed as usize + 1) as u32;
-    Figures {
-        size,
-        executed,
-        broken,
-        cancelled: cancelled - executed,
-        passed_on: passed_on - cancelled,
-        open: size - passed_on,
-    }
 }
 
 // Lengths and contents.
@@ -207,9 +121,8 @@ fn bookings(random: &mut Random, hand: &mut Hand) -> Written {
     hand.take(rich_table(random))?;
     let longer = [&piece("A T10 5")[..LINE - 2], b" \r\n"].concat();
     let no_pieces = [vec![], b"\n".to_vec(), b"\r".to_vec(), b"\r\n\r\n".to_vec(), vec![b' '; LINE], longer];
-    let foreign = [0x1F, 0x7F, 0x0A, 0xFF].map(|byte| cases::with(&piece("E T9 1"), 40..41, &[byte]));
-    let fields: Vec<_> =
-        FIELDS.iter().map(|field| cases::with(&piece("E T9 1"), field.places(), &broken(field))).collect();
+    let foreign = [0x1F, 0x7F, 0x0A, 0xFF].map(|byte| with(&piece("E T9 1"), 40..41, &[byte]));
+    let fields: Vec<_> = FIELDS.iter().map(|field| with(&piece("E T9 1"), field.places(), &broken(field))).collect();
     let unlawful = [no_pieces.to_vec(), foreign.to_vec(), fields].concat();
     booked("1, 2 and 3, each field", &unlawful, hand)?;
     let ended =

@@ -1,14 +1,12 @@
-//! The vectors that the papers print, and a few for records as bytes, tables and texts, each with its
-//! answer written by hand.
+//! The vectors of the papers, and a few for records as bytes, tables and texts, each with its answer written by hand.
 
-use std::io::{self, Write};
+use std::io::Write;
 
-use crate::cases::{self, put, room_payload};
-use crate::hand::{order_payload, patch_payload};
-use crate::shorthand::{capture, executed, key, piece, untraded, EXECUTED, WHOLE_CASE};
-use crate::table::{slot, BROKEN, ELDER, SIZE, TABLE};
-use crate::text_cases::{capture_payload, piece_payload};
-use crate::trial::Trial;
+use crate::cases::case::{
+    capture_payload, order_payload, patch_payload, piece_payload, put, room_payload, strike_payload, Written,
+};
+use crate::cases::shorthand::{capture, executed, key, piece, untraded, EXECUTED, WHOLE_CASE};
+use crate::rules::table::{slot, BROKEN, ELDER, SIZE, TABLE};
 
 /// All that the trial shows of it.
 const EXECUTED_SHOWN: &str = "read record 1[34293104] 2[E] 3[175C] 4[F] 5[O] 6[A] 7[BSI ] 8[00009] 9[00003] \
@@ -37,38 +35,6 @@ pub struct Vector {
     pub kind: u8,
     pub payload: Vec<u8>,
     pub says: Says,
-}
-
-impl Vector {
-    /// Whether the trial says so. It keeps the table in hand for the next vector.
-    pub fn holds(&self, trial: &mut Trial) -> bool {
-        let mut said = Vec::new();
-        trial.answer(self.kind, &self.payload, &mut said);
-        let shown = String::from_utf8_lossy(&said);
-        match &self.says {
-            Says::Words(words) => said.strip_suffix(b"\n") == Some(words),
-            Says::Sum(before, after) => {
-                let sum =
-                    shown.strip_prefix(before).and_then(|rest| rest.strip_suffix("\n")?.strip_suffix(after.as_str()));
-                sum.is_some_and(|sum| sum.strip_prefix(" sum ").is_some_and(|digits| digits.parse::<u32>().is_ok()))
-            }
-            Says::Record(parts) => {
-                let written = written_back(&String::from_utf8_lossy(&self.payload));
-                shown.strip_suffix(&written).is_some_and(|shown| {
-                    shown.starts_with("read record ") && parts.iter().all(|part| shown.contains(part))
-                })
-            }
-        }
-    }
-}
-
-/// The four writes that follow a record, when its line is the given one.
-fn written_back(line: &str) -> String {
-    let dots = ".".repeat(139);
-    let tail = ".".repeat(12);
-    format!(
-        "write 0 refused 4 []\nwrite 139 refused 4 [{dots}]\nwrite 140 done [{line}]\nwrite 152 done [{line}{tail}]\n"
-    )
 }
 
 pub fn reads(name: &'static str, piece: Vec<u8>, parts: &'static [&'static str]) -> Vector {
@@ -102,7 +68,7 @@ fn of_number(name: &'static str, kind: u8, number: u64, words: &str) -> Vector {
 }
 
 fn of_strike(name: &'static str, code: u8, digits: u64, words: &str) -> Vector {
-    says(name, b's', cases::strike_payload(code, digits), words)
+    says(name, b's', strike_payload(code, digits), words)
 }
 
 /// 01, Both sides of each bound, and the plain words of 01, The line.
@@ -439,7 +405,7 @@ pub fn texts() -> Vec<Vector> {
 }
 
 /// Writes their cases.
-pub fn write(out: &mut impl Write) -> io::Result<()> {
+pub fn write(out: &mut impl Write) -> Written {
     for vector in papers().into_iter().chain(records()).chain(tables()).chain(texts()) {
         put(out, b'n', vector.name.as_bytes())?;
         put(out, vector.kind, &vector.payload)?;

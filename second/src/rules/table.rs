@@ -1,14 +1,15 @@
-//! The lent table: a day kept in the caller's bytes (LAYOUT, The lent table). Each entry decodes the
-//! whole table and refuses a damaged one before it looks at anything else.
+//! The lent table: a day kept in the caller's bytes. Every entry first refuses a damaged one (LAYOUT, The lent table).
 
 use std::mem;
 use std::ops::Range;
 
-use crate::day::{Day, Figures, Key, Order, Series, MOST};
-use crate::line::{self, BODY, DATE, DENOMINATOR, FIELDS, MONTH, PRICE, ROOT, SIDE, SOURCE, STRIKE, TOKEN, YEAR};
-use crate::record::Record;
-use crate::refusal::Refusal;
-use crate::sheet;
+use crate::rules::day::{Day, Figures, Key, Order, Series, MOST};
+use crate::rules::fields::{
+    places, BODY, DATE, DENOMINATOR, FIELDS, MONTH, PRICE, ROOT, SIDE, SOURCE, STRIKE, TOKEN, YEAR,
+};
+use crate::rules::record::Record;
+use crate::rules::refusal::Refusal;
+use crate::rules::sheet;
 
 /// The bytes of the header, of one slot, and of the whole table.
 pub const HEADER: usize = 8;
@@ -132,8 +133,8 @@ fn sound_order(slot: &[u8]) -> Option<Order> {
     if !figures.add_up() || slot[REST..] != [0; SLOT - REST] {
         return None;
     }
-    let key: Key = line[line::places(SOURCE, TOKEN)].try_into().ok()?;
-    let series: Series = line[line::places(ROOT, STRIKE)].try_into().ok()?;
+    let key: Key = line[places(SOURCE, TOKEN)].try_into().ok()?;
+    let series: Series = line[places(ROOT, STRIKE)].try_into().ok()?;
     let elder = usize::from(u16::from_le_bytes([slot[ELDER], slot[ELDER + 1]])).checked_sub(1);
     Some(Order { key, side: record.bytes(SIDE)[0], series, price: record.number(PRICE), elder, figures })
 }
@@ -187,9 +188,9 @@ fn store_order(order: &Order, slot: &mut [u8]) {
 /// What an order's line says of its key, side, series and price.
 fn record_of(order: &Order) -> Record {
     let mut line = [b' '; BODY];
-    line[line::places(SOURCE, TOKEN)].copy_from_slice(&order.key);
-    line[line::places(SIDE, SIDE)].fill(order.side);
-    line[line::places(ROOT, STRIKE)].copy_from_slice(&order.series);
+    line[places(SOURCE, TOKEN)].copy_from_slice(&order.key);
+    line[places(SIDE, SIDE)].fill(order.side);
+    line[places(ROOT, STRIKE)].copy_from_slice(&order.series);
     let mut record = Record::of_line(&line);
     record.set_number(PRICE, order.price);
     record

@@ -3,14 +3,15 @@
 use std::io::{self, ErrorKind, Read, Write};
 use std::ops::RangeInclusive;
 
-use crate::clock;
-use crate::line::{self, Reading, FIELDS, LF};
-use crate::record::Record;
-use crate::refusal::Refusal;
-use crate::sheet;
-use crate::strike;
-use crate::sum::sum;
-use crate::table;
+use crate::rules::clock;
+use crate::rules::fields::{FIELDS, LF};
+use crate::rules::line::{self, Reading};
+use crate::rules::record::Record;
+use crate::rules::refusal::Refusal;
+use crate::rules::sheet;
+use crate::rules::strike;
+use crate::rules::sum::sum;
+use crate::rules::table;
 
 /// The longest payload.
 pub const LONGEST: usize = 65_536;

@@ -1,7 +1,7 @@
 //! The strike: a denominator code and six digits, or one value (01, Strike).
 
-use crate::line::{DENOMINATOR, STRIKE};
-use crate::refusal::Refusal;
+use crate::rules::fields::{DENOMINATOR, STRIKE};
+use crate::rules::refusal::Refusal;
 
 /// Each code with what one unit of its digits is worth, in hundred-thousandths of a dollar.
 const UNITS: [(u8, u64); 5] = [(b'A', 10_000), (b'B', 1_000), (b'C', 100), (b'D', 10), (b'E', 1)];

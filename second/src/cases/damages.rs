@@ -1,15 +1,17 @@
 //! Cases about damage: each rule broken alone, from both sides (01, *Damaged*).
 
-use std::io;
 use std::ops::Range;
 
-use crate::cases::EDGES;
-use crate::day::MOST;
-use crate::hand::Hand;
-use crate::line::{DATE, DENOMINATOR, MONTH, PRICE, ROOT, SIDE, SOURCE, STRIKE, TOKEN, YEAR};
-use crate::random::Random;
-use crate::table::{slot, BROKEN, CANCELLED, ELDER, EXECUTED, HEADER, KEPT, OPEN, PASSED_ON, REST, SIZE, SLOT, TABLE};
-use crate::table_cases::{full_table, rich_table, RICH_ORDERS};
+use crate::cases::case::Written;
+use crate::cases::contents::EDGES;
+use crate::cases::hand::Hand;
+use crate::cases::random::Random;
+use crate::cases::sound_tables::{full_table, rich_table, RICH_ORDERS};
+use crate::rules::day::MOST;
+use crate::rules::fields::{DATE, DENOMINATOR, MONTH, PRICE, ROOT, SIDE, SOURCE, STRIKE, TOKEN, YEAR};
+use crate::rules::table::{
+    slot, BROKEN, CANCELLED, ELDER, EXECUTED, HEADER, KEPT, OPEN, PASSED_ON, REST, SIZE, SLOT, TABLE,
+};
 
 /// Places in the rich table: a family of three, and the last order, of which all is open.
 const ELDEST: usize = 0;
@@ -24,7 +26,7 @@ const MARK: usize = 4;
 type Change = Vec<(usize, Vec<u8>)>;
 
 /// Writes the changes of every rule to the rich table, and the counts of a full one.
-pub fn bounds(random: &mut Random, hand: &mut Hand) -> io::Result<()> {
+pub fn bounds(random: &mut Random, hand: &mut Hand) -> Written {
     hand.take(rich_table(random))?;
     apply("a sound table", &[vec![]], hand)?;
     for (name, changes) in groups() {
@@ -35,7 +37,7 @@ pub fn bounds(random: &mut Random, hand: &mut Hand) -> io::Result<()> {
 }
 
 /// Writes changes of the rich table by chance.
-pub fn by_chance(count: u64, random: &mut Random, hand: &mut Hand) -> io::Result<()> {
+pub fn by_chance(count: u64, random: &mut Random, hand: &mut Hand) -> Written {
     hand.take(rich_table(random))?;
     let changes: Vec<_> = (0..count).map(|_| chance(random)).collect();
     apply("damage by chance", &changes, hand)
@@ -43,7 +45,7 @@ pub fn by_chance(count: u64, random: &mut Random, hand: &mut Hand) -> io::Result
 
 /// Each change is made, asked about, and taken back: the damage check always, of the other entries
 /// all at the first change and one in turn at every other.
-fn apply(name: &str, changes: &[Change], hand: &mut Hand) -> io::Result<()> {
+fn apply(name: &str, changes: &[Change], hand: &mut Hand) -> Written {
     hand.name(name)?;
     for (number, change) in changes.iter().enumerate() {
         let before = hand.table().to_vec();

@@ -1,12 +1,13 @@
-//! A random capture for the sheet programs: mostly lawful traffic that builds long families and
-//! figures near their bounds, mixed with every refusal, broken lines, rubbish and huge pieces.
+//! A random capture for the sheet programs: mostly lawful, with every refusal, broken lines, rubbish and huge pieces.
 
 use std::io::{self, Write};
 
-use crate::cases::{self, lawful_content, lawful_line, EDGES};
-use crate::day::{Day, Figures, Key, Order, Series, MOST, MOST_CONTRACTS};
-use crate::line::{self, BODY, CONTRACTS, CR_LF, FIELDS, LF, LINE, REPLACED_TOKEN, ROOT, SIDE, SOURCE, STRIKE};
-use crate::random::Random;
+use crate::cases::contents::{self, lawful_content, lawful_line, EDGES};
+use crate::cases::random::Random;
+use crate::rules::day::{Day, Figures, Key, Order, Series, MOST, MOST_CONTRACTS};
+use crate::rules::fields::{
+    places, BODY, CONTRACTS, CR_LF, FIELDS, LF, LINE, REPLACED_TOKEN, ROOT, SIDE, SOURCE, STRIKE,
+};
 
 /// One of them with an inner space, one nearly all padding.
 const SOURCES: [&[u8; 6]; 4] = [b"ABCD01", b"ABCD02", b"A B~! ", b"A     "];
@@ -26,7 +27,7 @@ pub fn write(seed: u64, count: usize, out: &mut impl Write) -> io::Result<()> {
     out.write_all(&stream.rest())
 }
 
-/// Gives one piece after another, or a few at once.
+/// Gives one piece after another, or a few at once. Its lawful lines build long families and figures near their bounds.
 pub struct Stream {
     random: Random,
     /// Books what is written, so that the next piece can be meant for an order as it stands.
@@ -76,7 +77,7 @@ impl Stream {
             _ => count - random.below(count / 16 + 1),
         };
         let series = alike_series(&mut random);
-        let contents = FIELDS.iter().map(cases::contents).collect();
+        let contents = FIELDS.iter().map(contents::contents).collect();
         let (given, last) = (day.orders().len(), Vec::new());
         Stream { random, day, pieces: 0, count, given, longest, full, founding, end, series, contents, last }
     }
@@ -203,7 +204,7 @@ impl Stream {
     fn line_with(&mut self, letter: u8, key: &Key, series: &Series, contracts: u32) -> Vec<u8> {
         let mut line = lawful_line(letter, &mut self.random);
         lay(&mut line, SOURCE, key);
-        lay(&mut line, CONTRACTS, &cases::right(contracts.into(), b' ', 6));
+        lay(&mut line, CONTRACTS, &contents::right(contracts.into(), b' ', 6));
         lay(&mut line, ROOT, series);
         line
     }
@@ -298,7 +299,7 @@ impl Stream {
     fn spoiled(&mut self) -> Vec<u8> {
         let mut line = if self.random.once_in(4) { self.refused() } else { self.lawful() };
         for _ in 0..=self.random.below(3) {
-            cases::mutate(&mut line, &self.contents, &mut self.random);
+            contents::mutate(&mut line, &self.contents, &mut self.random);
         }
         end(line)
     }
@@ -347,12 +348,12 @@ fn alike_series(random: &mut Random) -> Vec<Series> {
     lay(&mut line, STRIKE, &lawful_content(&FIELDS[STRIKE - 1], random));
     let series = |line: &[u8]| {
         let mut series = [0; 18];
-        series.copy_from_slice(&line[line::places(ROOT, STRIKE)]);
+        series.copy_from_slice(&line[places(ROOT, STRIKE)]);
         series
     };
     let mut all = vec![series(&line)];
     for field in &FIELDS[ROOT - 1..STRIKE] {
-        all.push(series(&cases::with(&line, field.places(), &lawful_content(field, random))));
+        all.push(series(&contents::with(&line, field.places(), &lawful_content(field, random))));
     }
     all
 }
@@ -366,7 +367,7 @@ fn token(number: usize) -> Vec<u8> {
         3 => format!("{number:016X}"),
         _ => format!("~{number:>9} a"),
     };
-    cases::left(&text, 20)
+    contents::left(&text, 20)
 }
 
 /// Puts a content into the line from the front of a field on.

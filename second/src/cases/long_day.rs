@@ -1,20 +1,19 @@
-//! A long day for timing: a capture of as many lines as are wanted, all of them accepted. A few
-//! clients enter some 500 orders early in the day; most lines execute, cancel or reprice a little of
-//! them until the close. The day does not end.
+//! A long day for timing: a capture of as many lines as are wanted, all of them accepted, and no end of day.
 
 use std::io::{self, Write};
 use std::mem;
 
-use crate::cases;
-use crate::day::{Day, MOST_CONTRACTS};
-use crate::line::{
-    self, On, CONTRACTS, CROSS_ID, DATE, DENOMINATOR, FIRM, LINE, LIQUIDITY, MATCH_ID, MONTH, PRICE, REFERENCE,
+use crate::cases::contents::left;
+use crate::cases::random::Random;
+use crate::cases::shorthand::{EXECUTED, NO_TOKEN};
+use crate::rules::day::{Day, MOST_CONTRACTS};
+use crate::rules::fields::{
+    On, CONTRACTS, CROSS_ID, DATE, DENOMINATOR, FIRM, LINE, LIQUIDITY, MATCH_ID, MONTH, PRICE, REFERENCE,
     REPLACED_TOKEN, ROOT, SIDE, SOURCE, STRIKE, TIMESTAMP, TOKEN, TYPE,
 };
-use crate::random::Random;
-use crate::record::Record;
-use crate::shorthand::{EXECUTED, NO_TOKEN};
-use crate::strike;
+use crate::rules::line;
+use crate::rules::record::Record;
+use crate::rules::strike;
 
 /// How many orders there are, fewer on a day of less than twice as many lines.
 const ORDERS: usize = 500;
@@ -51,7 +50,8 @@ const CLIENTS: [Client; 5] = [
     Client { source: b"QUO11 ", firm: b"QF1 ", prefix: "20260105", digits: 12 },
 ];
 
-/// Writes a day of so many lines.
+/// Writes a day of so many lines. A few clients enter some 500 orders early; most lines execute, cancel or reprice a
+/// little of them until the close.
 pub fn write(seed: u64, count: u32, out: &mut impl Write) -> io::Result<()> {
     let mut day = LongDay::new(seed, count);
     for _ in 0..count {
@@ -158,7 +158,7 @@ impl LongDay {
     fn new_token(&mut self, client: usize) -> Vec<u8> {
         self.tokens[client] += 1;
         let (Client { prefix, digits, .. }, number) = (&CLIENTS[client], self.tokens[client]);
-        cases::left(&format!("{prefix}{number:0digits$}"), 20)
+        left(&format!("{prefix}{number:0digits$}"), 20)
     }
 
     // Events.

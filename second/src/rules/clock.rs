@@ -1,6 +1,6 @@
 //! The clock: a Timestamp as a time of day (01, The line, field 1).
 
-use crate::refusal::Refusal;
+use crate::rules::refusal::Refusal;
 
 /// The last millisecond of the day. 01 decides for milliseconds where 001 also says seconds.
 pub const LAST: u64 = 86_399_999;

@@ -1,22 +1,21 @@
-//! The tests of the lent table: the layout, damage from both sides, and the bytes held against the
-//! abstract day over random streams and random tables.
+//! The tests of the lent table: the layout, damage from both sides, and the bytes held against the day by value.
 
 use std::iter;
 use std::sync::LazyLock;
 
-use crate::check::Law;
-use crate::day::{Day, Order, MOST};
-use crate::line::{LF, LINE};
-use crate::random::Random;
-use crate::refusal::Refusal;
-use crate::sheet;
-use crate::shorthand::{capture, key, piece};
-use crate::stream::Stream;
-use crate::sum::sum;
-use crate::table::{
+use crate::cases::random::Random;
+use crate::cases::shorthand::{capture, key, piece};
+use crate::cases::sound_tables::{random_day, stored};
+use crate::cases::stream::Stream;
+use crate::rules::day::{Day, Order, MOST};
+use crate::rules::fields::{LF, LINE};
+use crate::rules::refusal::Refusal;
+use crate::rules::sheet;
+use crate::rules::sum::sum;
+use crate::rules::table::{
     self, slot, BROKEN, CANCELLED, ELDER, EXECUTED, HEADER, KEPT, OPEN, PASSED_ON, REST, SIZE, SLOT, TABLE,
 };
-use crate::table_cases::{random_day, stored};
+use crate::tests::law::Law;
 
 /// The streams of the laws, and the pieces of each.
 const SEEDS: u64 = 8;

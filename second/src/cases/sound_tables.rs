@@ -1,0 +1,91 @@
+//! Sound tables to make cases of: one with every kind of order, full ones and random ones.
+
+use crate::cases::contents::lawful_line;
+use crate::cases::random::Random;
+use crate::cases::shorthand::{capture, other};
+use crate::rules::day::{Day, Figures, Order, MOST};
+use crate::rules::fields::LF;
+use crate::rules::table::{self, TABLE};
+
+/// A family of three (T1, T3, T4), one of two (T5, T6), and single orders with all executed (T7), all
+/// cancelled (T8) and all open (T9). The second order, T2 of another Source, comes before T3.
+const RICH: [&str; 2] = [
+    "A T1 100; E T1 30; C T1 10; X T1 5",
+    "U T3 for T1, 60; E T3 20; C T3 20; X T3 1; U T4 for T3, 40; E T4 5; X T4 15; A T5 999999; \
+     U T6 for T5, 999999; A T7 1; E T7 1; A T8 12; X T8 12; A T9 50",
+];
+pub const RICH_ORDERS: usize = 9;
+
+pub fn junk(random: &mut Random, length: usize) -> Vec<u8> {
+    (0..length).map(|_| random.next() as u8).collect()
+}
+
+/// The day's table, its free slots holding any bytes.
+pub fn stored(day: &Day, random: &mut Random) -> Vec<u8> {
+    let mut table = junk(random, TABLE);
+    table::store(day, &mut table);
+    table
+}
+
+/// The day after lines that are all accepted.
+pub fn day_of(text: &[u8]) -> Day {
+    let mut day = Day::default();
+    for piece in text.split_inclusive(|byte| *byte == LF) {
+        day.book(piece).expect("the lines are lawful");
+    }
+    day
+}
+
+pub fn rich_table(random: &mut Random) -> Vec<u8> {
+    let unlike = other("A T2 7", &[(10, "AB D02"), (14, "S"), (16, "X     "), (20, "E"), (21, "000001")]);
+    stored(&day_of(&[capture(RICH[0]), unlike, capture(RICH[1])].concat()), random)
+}
+
+/// A table of 512 orders.
+pub fn full_table(random: &mut Random) -> Vec<u8> {
+    stored(&random_day(MOST, random), random)
+}
+
+/// A sound table of so many orders that no lines need lead to: elders anywhere earlier and of any
+/// side and series, any figures that add up, and now and then a key that is there already.
+pub fn random_day(orders: usize, random: &mut Random) -> Day {
+    let founding = *random.pick(&[1, 2, 8, 64]);
+    let mut all: Vec<Order> = Vec::with_capacity(orders);
+    let mut youngest: Vec<usize> = Vec::new();
+    for place in 0..orders {
+        let mut order = day_of(&lawful_line(b'A', random)).orders()[0].clone();
+        order.figures = spread(order.figures.size, random);
+        if place > 0 && random.once_in(32) {
+            order.key = random.pick(&all).key;
+        }
+        if place > 0 && !random.once_in(founding) {
+            let elder = youngest.swap_remove(random.below(youngest.len()));
+            let figures = &mut all[elder].figures;
+            figures.passed_on += figures.open;
+            figures.open = 0;
+            order.elder = Some(elder);
+        }
+        youngest.push(place);
+        all.push(order);
+    }
+    Day::of(all, random.once_in(24))
+}
+
+/// Half the time all of a size is open, else it is cut into four parts at any places.
+fn spread(size: u32, random: &mut Random) -> Figures {
+    let mut cuts = [0; 3];
+    if random.once_in(2) {
+        cuts.fill_with(|| random.below(size as usize + 1) as u32);
+        cuts.sort_unstable();
+    }
+    let [executed, cancelled, passed_on] = cuts;
+    let broken = random.below(executed as usize + 1) as u32;
+    Figures {
+        size,
+        executed,
+        broken,
+        cancelled: cancelled - executed,
+        passed_on: passed_on - cancelled,
+        open: size - passed_on,
+    }
+}

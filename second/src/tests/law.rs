@@ -1,0 +1,4 @@
+//! What a test over many values is.
+
+/// A law that runs over many values.
+pub type Law = (&'static str, fn() -> bool);
