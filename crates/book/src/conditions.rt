@@ -16,20 +16,20 @@ use order::Series;
 pub fn is_new(event: Event) -> bool
     ensures { λ r. ⌜ r ≡ isNew event ⌝ }
 {
-    rule::type_of(event) == b'A'
+    record::type_of(event) == b'A'
 }
 
 pub fn is_maker(event: Event) -> bool
     ensures { λ r. ⌜ r ≡ isMaker event ⌝ }
 {
-    let t = rule::type_of(event);
+    let t = record::type_of(event);
     (t == b'A') | rule::is_replace(t)
 }
 
 fn is_replace(event: Event) -> bool
     ensures { λ r. ⌜ r ≡ isReplace event ⌝ }
 {
-    rule::is_replace(rule::type_of(event))
+    rule::is_replace(record::type_of(event))
 }
 
 // The key of the order that a line speaks of: for U, the elder.

@@ -26,7 +26,7 @@ use Rattle.layout.specs.declared.Record.{Record}
 use Rattle.layout.specs.declared.Trade.{Trade}
 use Rattle.layout.proofs.Answers.{read-back}
 use Rattle.layout.proofs.Rules.{both}
-use Rattle.writing.proofs.Events.{type-lawful}
+use Rattle.record.proofs.Events.{type-lawful}
 use Rattle.door.specs.Images.{imageOf, oddId, recordIn, unmeant, unwritable}
 use Rattle.door.specs.Promises.{writeAnswer, Writes}
 use Rattle.door.proofs.Cells.{cells, cellAt, apart, clear, numbers-are-cells, length-cells, part-apart, part-cell}

@@ -75,7 +75,7 @@ pub fn load(b: &[u8]) -> Record
     requires { ⌜ length (now b) ≡ 138 ⌝ }
     ensures { λ r. ⌜ r ≡ recordIn (now (b .entry)) ⌝ }
 {
-    line::record_of(b, numbers(b))
+    record::record_of(b, numbers(b))
 }
 
 // The first field in the way of writing, where odd is that of the first byte without meaning: the rules are looked at for it only where there is one.
@@ -103,7 +103,7 @@ pub fn store(r: Record, piece: &[u8], out: &mut [u8])
     put_early(r, out);
     put_late(r, out);
     let event = r.event;
-    put_ids(writing::trade_of(event), out);
+    put_ids(record::trade_of(event), out);
 }
 
 // The numbers go in three lots, since the prover reads only so many facts of one function.

@@ -1,5 +1,5 @@
-pub mod Built
 pub mod Determined
 pub mod Forms
 pub mod Readings
 pub mod Steps
+pub mod Whole

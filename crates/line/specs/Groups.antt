@@ -11,8 +11,6 @@ use Rattle.layout.specs.Rule.{Value, num, run}
 use Rattle.layout.specs.declared.Numbers.{Numbers}
 use Rattle.rule.specs.ByType.{idValue}
 use Rattle.line.specs.Promises.{blankRecord}
-use Rattle.line.specs.declared.Names.{Names}
-use Rattle.line.specs.declared.Parties.{Parties}
 use Rattle.line.specs.declared.Reading.{Reading}
 use Rattle.line.specs.declared.Outcome.the-variants.{Line, Refused}
 
@@ -59,10 +57,3 @@ noNumbers = record { timestamp = 0; contracts = 0; date = 0; year = 0; strike = 
 -- what is read from field k + 1 on, behind k fields that said their values
 abbrev pub readingFrom : ℕ → Numbers → List ℕ → Reading
 readingFrom k n s = readingOf (readRows (drop k (rowsOf s)) (take k (valuesOf n s)) s)
-
-abbrev pub partiesOf : List ℕ → Parties
-partiesOf s = record { firm = part s 9 4; account = part s 16 4; member = part s 20 5; clearing = part s 25 5 }
-
-abbrev pub namesOf : List ℕ → Names
-namesOf s =
-    record { source = part s 30 6; token = part s 36 20; replaced = part s 56 20; reference = part s 76 9; root = part s 92 6 }

@@ -1,10 +1,8 @@
 // Reading a piece; the value and the form of a strike; the time of day.
-mod build;
 mod piece;
 mod strikes;
 mod times;
 
-pub use build::record_of;
 use layout::Clock;
 use layout::Record;
 use layout::Strike;
@@ -40,20 +38,4 @@ pub enum StrikeForm {
 pub enum TimeOfDay {
     Time(Clock),
     Refused(Refusal),
-}
-
-// The runs of a line are copied in two lots: a function that makes all nine has more facts than the prover reads.
-pub(crate) struct Parties {
-    pub(crate) firm: [u8; 4],
-    pub(crate) account: [u8; 4],
-    pub(crate) member: [u8; 5],
-    pub(crate) clearing: [u8; 5],
-}
-
-pub(crate) struct Names {
-    pub(crate) source: [u8; 6],
-    pub(crate) token: [u8; 20],
-    pub(crate) replaced: [u8; 20],
-    pub(crate) reference: [u8; 9],
-    pub(crate) root: [u8; 6],
 }

@@ -4,16 +4,17 @@ ghost use mathlib.Core.Path.{_≡_};
 ghost use lib.ListN.{length};
 ghost use Rattle.layout.specs.Line.{same, crlf};
 ghost use Rattle.line.specs.Groups.{readingFrom, refusedReading, noNumbers};
-ghost use Rattle.line.specs.Promises.{Read};
+ghost use Rattle.line.specs.Promises.{Read, blankRecord};
 use crate::Outcome;
 use crate::Reading;
-use crate::build;
 use field::Bytes;
 use field::Class;
 use field::Number;
 use field::digits;
 use field::kept;
+use layout::Event;
 use layout::Numbers;
+use layout::Record;
 use refusal::Refusal;
 
 // A piece of any length and content. It is refused by the first rule that it breaks.
@@ -23,7 +24,7 @@ pub fn read(piece: &[u8]) -> Reading
     if is_crlf(piece) {
         return Reading {
             outcome: Outcome::EndOfDay,
-            line: build::blank_record(),
+            line: blank_record(),
         };
     }
     if piece.len() != rule::LINE {
@@ -47,12 +48,41 @@ fn is_crlf(s: &[u8]) -> bool
     (s[0] == b'\r') & (s[1] == b'\n')
 }
 
+// What stands beside an outcome that is no line.
+fn blank_record() -> Record
+    ensures { λ r. ⌜ r ≡ blankRecord ⌝ }
+{
+    Record {
+        timestamp: 0,
+        event: Event::Accepted,
+        firm: [32; 4],
+        capacity: 32,
+        position: 32,
+        account: [32; 4],
+        member: [32; 5],
+        clearing: [32; 5],
+        source: [32; 6],
+        token: [32; 20],
+        replaced: [32; 20],
+        reference: [32; 9],
+        side: 32,
+        contracts: 0,
+        root: [32; 6],
+        month: 32,
+        date: 0,
+        year: 0,
+        denominator: 32,
+        strike: 0,
+        price: 0,
+    }
+}
+
 fn refused(x: Refusal) -> Reading
     ensures { λ r. ⌜ r ≡ refusedReading x ⌝ }
 {
     Reading {
         outcome: Outcome::Refused(x),
-        line: build::blank_record(),
+        line: blank_record(),
     }
 }
 
@@ -198,6 +228,6 @@ fn trade_fields(s: &[u8], n: Numbers) -> Reading
     m.cross_id = cross_id;
     Reading {
         outcome: Outcome::Line,
-        line: build::record_of(s, m),
+        line: record::record_of(s, m),
     }
 }

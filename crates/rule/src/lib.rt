@@ -5,7 +5,6 @@ ghost use mathlib.Core.Path.{_≡_};
 ghost use lib.Dec.{eqb, leb};
 ghost use lib.ListN.{length};
 ghost use Rattle.layout.specs.Layout.{isTrade, liquidities, leastStrike};
-ghost use Rattle.layout.specs.Records.{typeOf};
 ghost use Rattle.layout.specs.Rule.{code, text};
 ghost use Rattle.layout.specs.Rule.{kept as Rule·kept};
 ghost use Rattle.layout.specs.Strikes.{lawfulStrike};
@@ -14,7 +13,6 @@ use field::Bytes;
 use field::Number;
 use field::digits;
 use field::kept;
-use layout::Event;
 
 // A line in bytes, CR LF included, and its fields alone.
 pub const LINE: usize = 140;
@@ -58,20 +56,6 @@ pub fn within(v: u64, least: u64, most: u64) -> bool
     ensures { λ x. ⌜ x ≡ (leb least v && leb v most) ⌝ }
 {
     (least <= v) & (v <= most)
-}
-
-// The letter of an event.
-pub fn type_of(event: Event) -> u8
-    ensures { λ r. ⌜ r ≡ typeOf event ⌝ }
-{
-    match event {
-        Event::Accepted => b'A',
-        Event::Executed(_) => b'E',
-        Event::Cancelled => b'X',
-        Event::Broken(_) => b'C',
-        Event::Replaced => b'U',
-        Event::Repriced => b'R',
-    }
 }
 
 // Liquidity, Match Id and Cross Id stand on E and C.

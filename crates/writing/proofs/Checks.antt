@@ -20,7 +20,7 @@ use Rattle.layout.specs.declared.Record.{Record}
 use Rattle.rule.specs.ByType.{keptOn}
 use Rattle.rule.proofs.Answers.{kept-is, price-most}
 use Rattle.writing.specs.Writes.{checkOf, checkFrom}
-use Rattle.writing.proofs.Events.{liquidity-value}
+use Rattle.record.proofs.Events.{liquidity-value}
 use Rattle.writing.proofs.Fields.{rowFor, lawfulAt}
 
 -- the fields from one to another are lawful, so the answer is that of those behind them

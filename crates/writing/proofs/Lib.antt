@@ -1,6 +1,5 @@
 pub mod Checks
 pub mod Determined
-pub mod Events
 pub mod Fields
 pub mod Puts
 pub mod Writings

@@ -1,16 +1,18 @@
 -- Writing one field behind another: the runs of bytes that are stored make up the line.
 use Prim.Native.Nat.{ℕ, suc, _+_, _<_}
-use mathlib.Core.Path.{_≡_, _∙_}
+use mathlib.Core.Path.{_≡_, refl, _∙_}
 use mathlib.Core.List.{List, _++_, append-assoc}
 use lib.ListN.{length, drop}
 use lib.Seq.{sets, drop-cons}
 use Rattle.field.proofs.Stores.{sets-append}
-use Rattle.layout.specs.Layout.{noRow, writeRows}
+use Rattle.layout.specs.Layout.{noRow, isTrade, tradeId, writeRows}
 use Rattle.layout.specs.Line.{crlf, rowsFor}
-use Rattle.layout.specs.Records.{fieldsOf}
-use Rattle.layout.specs.Rule.{num}
+use Rattle.layout.specs.Records.{fieldsOf, typeOf, tradeOf, matchOf, crossOf}
+use Rattle.layout.specs.Rule.{num, writes}
+use Rattle.layout.specs.declared.Event.{Event}
 use Rattle.layout.specs.declared.Record.{Record}
-use Rattle.writing.specs.Writes.{lineFrom}
+use Rattle.record.proofs.Events.{by-event}
+use Rattle.writing.specs.Writes.{idText, lineFrom}
 use Rattle.writing.proofs.Fields.{rowFor, textFor}
 
 line-next : (k : ℕ) (r : Record) → k < 24 → lineFrom k r ≡ textFor r k ++ lineFrom (suc k) r
@@ -28,3 +30,11 @@ field-then k r xs l h e p q = q ∙ rw (p, line-next k r h, ← (e .0)) (sets-ap
 pub ends : (r : Record) (l : List ℕ) {x : List ℕ} → x ≡ sets l 138 crlf → x ≡ sets l 138 (lineFrom 24 r)
 unfolding lineFrom
 ends r l e = e
+
+-- ---- the ids of an event, each by computation
+
+pub match-text : (e : Event) → let xs = idText (isTrade (typeOf e)) (tradeOf e .«match_id») in (xs ≡ writes (tradeId (typeOf e)) 9 (matchOf e)) × (length xs ≡ 9)
+match-text = by-event _ (refl, refl) (λ t. (refl, refl)) (refl, refl) (λ t. (refl, refl)) (refl, refl) (refl, refl)
+
+pub cross-text : (e : Event) → let xs = idText (isTrade (typeOf e)) (tradeOf e .«cross_id») in (xs ≡ writes (tradeId (typeOf e)) 9 (crossOf e)) × (length xs ≡ 9)
+cross-text = by-event _ (refl, refl) (λ t. (refl, refl)) (refl, refl) (λ t. (refl, refl)) (refl, refl) (refl, refl)

@@ -2,7 +2,6 @@
 ghost use mathlib.Core.Path.{_≡_};
 ghost use Rattle.writing.specs.Writes.{checkFrom};
 use crate::Checked;
-use crate::event;
 use field::Bytes;
 use field::kept;
 use layout::Record;
@@ -26,9 +25,9 @@ pub fn check(r: Record) -> Checked
         return Checked::Unlawful(5);
     }
     let event = r.event;
-    let trade = event::trade_of(event);
+    let trade = record::trade_of(event);
     let liquidity = [trade.liquidity];
-    let Bytes::Lawful = rule::liquidity(&liquidity, rule::is_trade(rule::type_of(event))) else {
+    let Bytes::Lawful = rule::liquidity(&liquidity, rule::is_trade(record::type_of(event))) else {
         return Checked::Unlawful(6);
     };
     account_fields(r)
@@ -60,7 +59,7 @@ fn account_fields(r: Record) -> Checked
     };
     let event = r.event;
     let replaced = r.replaced;
-    let Bytes::Lawful = rule::replaced(&replaced, rule::is_replace(rule::type_of(event))) else {
+    let Bytes::Lawful = rule::replaced(&replaced, rule::is_replace(record::type_of(event))) else {
         return Checked::Unlawful(12);
     };
     order_fields(r)
@@ -117,7 +116,7 @@ fn trade_fields(r: Record) -> Checked
     ensures { λ x. ⌜ x ≡ checkFrom 22 r ⌝ }
 {
     let event = r.event;
-    let trade = event::trade_of(event);
+    let trade = record::trade_of(event);
     if !rule::within(trade.match_id, 0, rule::MOST_ID) {
         return Checked::Unlawful(23);
     }

@@ -1,9 +1,7 @@
 // Checking a record, and writing it as its line.
-mod event;
 mod lawful;
 mod output;
 
-pub use event::trade_of;
 pub use lawful::check;
 pub use output::write;
 use refusal::Refusal;

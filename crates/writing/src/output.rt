@@ -7,7 +7,6 @@ ghost use Rattle.writing.specs.Promises.{Write};
 ghost use Rattle.writing.specs.Writes.{idText, lineFrom};
 use crate::Checked;
 use crate::Written;
-use crate::event;
 use crate::lawful;
 use field::put;
 use layout::Record;
@@ -45,10 +44,10 @@ fn event_fields(r: Record, out: &mut [u8])
     ensures { λ _. ⌜ now (out .exit) ≡ sets (now (out .entry)) 0 (lineFrom 0 r) ⌝ }
 {
     let event = r.event;
-    let trade = event::trade_of(event);
+    let trade = record::trade_of(event);
     let firm = r.firm;
     put::filled(out, 0, 8, r.timestamp, b' ');
-    put::byte(out, 8, rule::type_of(event));
+    put::byte(out, 8, record::type_of(event));
     put::run(out, 9, &firm);
     put::byte(out, 13, r.capacity);
     put::byte(out, 14, r.position);
@@ -110,8 +109,8 @@ fn trade_fields(r: Record, out: &mut [u8])
     ensures { λ _. ⌜ now (out .exit) ≡ sets (now (out .entry)) 120 (lineFrom 22 r) ⌝ }
 {
     let event = r.event;
-    let trade = event::trade_of(event);
-    let on = rule::is_trade(rule::type_of(event));
+    let trade = record::trade_of(event);
+    let on = rule::is_trade(record::type_of(event));
     id(out, 120, on, trade.match_id);
     id(out, 129, on, trade.cross_id);
     put::run(out, rule::FIELDS, b"\r\n");

@@ -13,7 +13,7 @@ use Rattle.line.specs.Groups.{readingFrom}
 use Rattle.layout.specs.Layout.{part}
 use Rattle.layout.specs.declared.Numbers.{Numbers}
 use Rattle.line.specs.declared.Reading.{Reading}
-use Rattle.line.proofs.Built.{all-read}
+use Rattle.line.proofs.Whole.{all-read}
 use Rattle.line.proofs.Steps.{withIds, past, stops}
 use Rattle.rule.proofs.Answers.{id-good, id-bad, id-number}
 use Rattle.line.proofs.piece.trade_fields.Statement.{statement}

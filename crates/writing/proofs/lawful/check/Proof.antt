@@ -5,7 +5,7 @@ use lib.Dec.{lit<}
 use Rattle.layout.specs.Rule.{text}
 use Rattle.field.specs.Kept.{kept as keptAnswer}
 use Rattle.writing.proofs.Checks.{Past, judged, test-passes, test-fails, kept-passes, kept-fails, kind-is, liquidity-is}
-use Rattle.writing.proofs.Events.{type-lawful}
+use Rattle.record.proofs.Events.{type-lawful}
 use Rattle.writing.proofs.Fields.{lawfulAt, Sized}
 use Rattle.writing.proofs.lawful.check.Statement.{statement}
 use Rattle.writing.proofs.lawful.check.Tie as tie

@@ -3,7 +3,7 @@ use mathlib.Core.Path.{_∙_}
 use borrow.Author.Needs.{needs}
 use lib.Dec.{lit<}
 use Rattle.writing.proofs.Checks.{Past, test-passes, test-fails}
-use Rattle.writing.proofs.Events.{match-lawful, cross-lawful}
+use Rattle.record.proofs.Events.{match-lawful, cross-lawful}
 use Rattle.writing.proofs.lawful.trade_fields.Statement.{statement}
 use Rattle.writing.proofs.lawful.trade_fields.Tie as tie
 

@@ -4,7 +4,7 @@ use native.Mathlib.Omega.{arith}
 use borrow.Author.Needs.{needs}
 use lib.Dec.{lit<}
 use Rattle.writing.proofs.Puts.{field-then}
-use Rattle.writing.proofs.Events.{liquidity-text}
+use Rattle.record.proofs.Events.{liquidity-text}
 use Rattle.writing.proofs.Fields.{Sized}
 use Rattle.writing.proofs.output.event_fields.Statement.{statement}
 use Rattle.writing.proofs.output.event_fields.Tie as tie

@@ -1,8 +1,7 @@
 -- `writing::output::trade_fields` meets its contract. Its places: cN where field N is stored, d where the rest is, s where it starts.
 use borrow.Author.Needs.{needs}
 use lib.Dec.{lit<}
-use Rattle.writing.proofs.Events.{match-text, cross-text}
-use Rattle.writing.proofs.Puts.{field-then, ends}
+use Rattle.writing.proofs.Puts.{field-then, ends, match-text, cross-text}
 use Rattle.writing.proofs.output.trade_fields.Statement.{statement}
 use Rattle.writing.proofs.output.trade_fields.Tie as tie
 

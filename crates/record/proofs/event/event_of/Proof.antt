@@ -1,7 +1,7 @@
--- `line::build::event_of` meets its contract.
-use Rattle.line.proofs.Built.{is-a, is-e, is-x, is-c, is-u, is-r}
-use Rattle.line.proofs.build.event_of.Statement.{statement}
-use Rattle.line.proofs.build.event_of.Tie as tie
+-- `record::event::event_of` meets its contract.
+use Rattle.record.proofs.Built.{is-a, is-e, is-x, is-c, is-u, is-r}
+use Rattle.record.proofs.event.event_of.Statement.{statement}
+use Rattle.record.proofs.event.event_of.Tie as tie
 
 returns : tie.Need-returns
 returns c = is-a _ _ (c .if1 .taken)

@@ -1,7 +1,7 @@
--- `line::build::names` meets its contract.
+-- `record::build::parties` meets its contract.
 use borrow.Author.Needs.{needs}
-use Rattle.line.proofs.build.names.Statement.{statement}
-use Rattle.line.proofs.build.names.Tie as tie
+use Rattle.record.proofs.build.parties.Statement.{statement}
+use Rattle.record.proofs.build.parties.Tie as tie
 
 slice-aggregate-copy : tie.Need-slice-aggregate-copy
 slice-aggregate-copy c = search needs
@@ -63,26 +63,11 @@ part-copy-end-4 c = search needs
 copy-requires-4 : tie.Need-copy-requires-4
 copy-requires-4 c κs = search needs
 
-slice-aggregate-copy-5 : tie.Need-slice-aggregate-copy-5
-slice-aggregate-copy-5 c = search needs
-
-sub-copy-5 : tie.Need-sub-copy-5
-sub-copy-5 c = search needs
-
-part-copy-start-5 : tie.Need-part-copy-start-5
-part-copy-start-5 c = search needs
-
-part-copy-end-5 : tie.Need-part-copy-end-5
-part-copy-end-5 c = search needs
-
-copy-requires-5 : tie.Need-copy-requires-5
-copy-requires-5 c κs = search needs
-
 returns : tie.Need-returns
-returns c = λ i. record { source = (c .before .before .before .before .before .before .before .before .before .before .before .before .before .before .before .before .before .copy .ensures) i; token = (c .before .before .before .before .before .before .before .before .before .before .before .before .before .copy2 .ensures) i; replaced = (c .before .before .before .before .before .before .before .before .before .copy3 .ensures) i; reference = (c .before .before .before .before .before .copy4 .ensures) i; root = (c .before .copy5 .ensures) i }
+returns c = λ i. record { firm = (c .before .before .before .before .before .before .before .before .before .before .before .before .before .copy .ensures) i; account = (c .before .before .before .before .before .before .before .before .before .copy2 .ensures) i; member = (c .before .before .before .before .before .copy3 .ensures) i; clearing = (c .before .copy4 .ensures) i }
 
-pub names-spec : {M : Type 1} → statement M
-names-spec =
+pub parties-spec : {M : Type 1} → statement M
+parties-spec =
     tie.close
     (tie.spec
     slice-aggregate-copy
@@ -105,9 +90,4 @@ names-spec =
     part-copy-start-4
     part-copy-end-4
     copy-requires-4
-    slice-aggregate-copy-5
-    sub-copy-5
-    part-copy-start-5
-    part-copy-end-5
-    copy-requires-5
     returns)

@@ -1,9 +1,9 @@
--- `line::build::record_of` meets its contract.
+-- `record::build::record_of` meets its contract.
 use borrow.Author.Needs.{needs}
 use denote.Ref.{now}
-use Rattle.line.proofs.Built.{built}
-use Rattle.line.proofs.build.record_of.Statement.{statement}
-use Rattle.line.proofs.build.record_of.Tie as tie
+use Rattle.record.proofs.Built.{built}
+use Rattle.record.proofs.build.record_of.Statement.{statement}
+use Rattle.record.proofs.build.record_of.Tie as tie
 
 shared-slice-read-capacity : tie.Need-shared-slice-read-capacity
 shared-slice-read-capacity c = search needs

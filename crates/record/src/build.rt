@@ -2,65 +2,16 @@
 ghost use Prim.Native.Nat.{_≤_};
 ghost use mathlib.Core.Path.{_≡_};
 ghost use lib.ListN.{length};
-ghost use Rattle.layout.specs.Records.{eventOf, eventFrom, recordFrom};
-ghost use Rattle.line.specs.Groups.{partiesOf, namesOf};
-ghost use Rattle.line.specs.Promises.{blankRecord};
+ghost use Rattle.layout.specs.Records.{eventFrom, recordFrom};
+ghost use Rattle.record.specs.Parts.{partiesOf, namesOf};
 use crate::Names;
 use crate::Parties;
+use crate::event::event_of;
 use field::put;
 use layout::Event;
 use layout::Numbers;
 use layout::Record;
 use layout::Trade;
-
-pub fn blank_record() -> Record
-    ensures { λ r. ⌜ r ≡ blankRecord ⌝ }
-{
-    Record {
-        timestamp: 0,
-        event: Event::Accepted,
-        firm: [32; 4],
-        capacity: 32,
-        position: 32,
-        account: [32; 4],
-        member: [32; 5],
-        clearing: [32; 5],
-        source: [32; 6],
-        token: [32; 20],
-        replaced: [32; 20],
-        reference: [32; 9],
-        side: 32,
-        contracts: 0,
-        root: [32; 6],
-        month: 32,
-        date: 0,
-        year: 0,
-        denominator: 32,
-        strike: 0,
-        price: 0,
-    }
-}
-
-fn event_of(t: u8, trade: Trade) -> Event
-    ensures { λ r. ⌜ r ≡ eventOf t trade ⌝ }
-{
-    if t == b'A' {
-        return Event::Accepted;
-    }
-    if t == b'E' {
-        return Event::Executed(trade);
-    }
-    if t == b'X' {
-        return Event::Cancelled;
-    }
-    if t == b'C' {
-        return Event::Broken(trade);
-    }
-    if t == b'U' {
-        return Event::Replaced;
-    }
-    Event::Repriced
-}
 
 fn parties(s: &[u8]) -> Parties
     requires { ⌜ 138 ≤ length (now s) ⌝ }

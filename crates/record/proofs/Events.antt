@@ -3,17 +3,16 @@ use mathlib.Core.Path.{_≡_, refl}
 use mathlib.Core.Bool.{true, _&&_}
 use mathlib.Core.List.{[], _∷_}
 use lib.Dec.{leb}
-use lib.ListN.{length}
 use Rattle.field.specs.Kept.{member}
-use Rattle.layout.specs.Layout.{types, liquidities, isTrade, onTrade, tradeId}
+use Rattle.layout.specs.Layout.{types, liquidities, onTrade, tradeId}
 use Rattle.layout.specs.Records.{typeOf, tradeOf, one, liquidityOf, matchOf, crossOf}
 use Rattle.layout.specs.Rule.{code, kept, blank, lawful, writes}
 use Rattle.layout.specs.declared.Event.{Event}
 use Rattle.layout.specs.declared.Event.the-variants.{Accepted, Executed, Cancelled, Broken, Replaced, Repriced}
 use Rattle.layout.specs.declared.Trade.{Trade}
-use Rattle.writing.specs.Writes.{idText}
 
-by-event : (P : Event → Type 0) → P Accepted → ((t : Trade) → P (Executed t)) → P Cancelled → ((t : Trade) → P (Broken t)) → P Replaced → P Repriced
+-- case by case
+pub by-event : (P : Event → Type 0) → P Accepted → ((t : Trade) → P (Executed t)) → P Cancelled → ((t : Trade) → P (Broken t)) → P Replaced → P Repriced
     → (e : Event) → P e
 by-event P a e x c u r Accepted = a
 by-event P a e x c u r (Executed t) = e t
@@ -38,9 +37,3 @@ cross-lawful = by-event _ refl (λ t. refl) refl (λ t. refl) refl refl
 
 pub liquidity-text : (e : Event) → (tradeOf e .liquidity ∷ []) ≡ writes (onTrade (typeOf e) (code liquidities) (kept blank)) 1 (liquidityOf e)
 liquidity-text = by-event _ refl (λ t. refl) refl (λ t. refl) refl refl
-
-pub match-text : (e : Event) → let xs = idText (isTrade (typeOf e)) (tradeOf e .«match_id») in (xs ≡ writes (tradeId (typeOf e)) 9 (matchOf e)) × (length xs ≡ 9)
-match-text = by-event _ (refl, refl) (λ t. (refl, refl)) (refl, refl) (λ t. (refl, refl)) (refl, refl) (refl, refl)
-
-pub cross-text : (e : Event) → let xs = idText (isTrade (typeOf e)) (tradeOf e .«cross_id») in (xs ≡ writes (tradeId (typeOf e)) 9 (crossOf e)) × (length xs ≡ 9)
-cross-text = by-event _ (refl, refl) (λ t. (refl, refl)) (refl, refl) (λ t. (refl, refl)) (refl, refl) (refl, refl)

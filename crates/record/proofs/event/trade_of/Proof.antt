@@ -1,7 +1,7 @@
--- `writing::event::trade_of` meets its contract.
+-- `record::event::trade_of` meets its contract.
 use borrow.Author.Needs.{needs}
-use Rattle.writing.proofs.event.trade_of.Statement.{statement}
-use Rattle.writing.proofs.event.trade_of.Tie as tie
+use Rattle.record.proofs.event.trade_of.Statement.{statement}
+use Rattle.record.proofs.event.trade_of.Tie as tie
 
 enum-known-event : tie.Need-enum-known-event
 enum-known-event c = search needs
