@@ -36,7 +36,7 @@ use Rattle.book.specs.Bytes.{bookAnswer}
 use Rattle.book.proofs.Refuted.{refusal-stays}
 use Rattle.sheet.specs.Promises.{textOf, sheetAnswer, sheetFrom}
 use Rattle.door.specs.Demand1.{Answers, Refuses, Demand1}
-use Rattle.door.specs.Images.{odd, unmeant, recordIn, sooner, unwritable}
+use Rattle.image.specs.Images.{odd, unmeant, recordIn, sooner, unwritable}
 use Rattle.door.specs.Promises.{codeOf, numberAfter, readAnswer, kindOf, recordAfter, writeAnswer}
 
 -- ---- a value, or a numbered refusal

@@ -1,13 +1,8 @@
 pub mod Answered
-pub mod Back
-pub mod Cells
 pub mod Demand1
 pub mod Determined
-pub mod Foremost
-pub mod Forth
-pub mod Odd
+pub mod FirstField
+pub mod Named
 pub mod Readings
-pub mod Rows
-pub mod Sooner
-pub mod Stores
+pub mod RoundTrip
 pub mod Writings

@@ -11,7 +11,7 @@ use Rattle.layout.specs.Line.{Said, line, endOfDay, read}
 use Rattle.line.specs.Promises.{saidOf, Read}
 use Rattle.line.specs.declared.Outcome.the-variants.{EndOfDay, Line, Refused}
 use Rattle.line.specs.declared.Reading.{Reading}
-use Rattle.door.specs.Images.{imageOf}
+use Rattle.image.specs.Images.{imageOf}
 use Rattle.door.specs.Promises.{kindOf, numberAfter, readAnswer, recordAfter, Reads}
 use Rattle.door.proofs.Answered.{codeFor, says-value, says-refusal}
 

@@ -13,10 +13,10 @@ use Rattle.layout.specs.declared.Record.{Record}
 use Rattle.writing.specs.Promises.{wroteOf, Write}
 use Rattle.writing.specs.declared.Written.{Written}
 use Rattle.writing.specs.declared.Written.the-variants.{Done, Refused}
-use Rattle.door.specs.Images.{recordIn, sooner, unmeant, unwritable}
+use Rattle.image.specs.Images.{recordIn, sooner, unmeant, unwritable}
 use Rattle.door.specs.Promises.{writeAnswer, Writes}
 use Rattle.door.proofs.Answered.{codeFor, says-value, says-refusal}
-use Rattle.door.proofs.Sooner.{other-length, in-the-way, odd-in-the-way, rule-in-the-way}
+use Rattle.image.proofs.Sooner.{other-length, in-the-way, odd-in-the-way, rule-in-the-way}
 
 module _ (b before : List ℕ) where
   pub no-room : (k : ℕ) → length before < 140 → k ≡ 4 → Writes b before k before

@@ -1,18 +1,14 @@
--- docs/LAYOUT.md, A record: writing names the first field that has a byte without meaning or breaks its rule. proofs/Foremost.antt proves it.
+-- docs/LAYOUT.md, A record: writing names the first field that has a byte without meaning or breaks its rule. proofs/FirstField.antt proves it.
 use Prim.Native.Nat.{ℕ, _≤_, _<_}
 use mathlib.Core.Path.{_≡_}
-use mathlib.Core.Bool.{Bool, true, not, _&&_}
+use mathlib.Core.Bool.{true}
 use mathlib.Core.List.{List}
 use mathlib.Core.Logic.{_↔_}
 use lib.ListN.{length}
 use Rattle.refusal.specs.Answer.{value, refused}
-use Rattle.layout.specs.Demand2.{First, holds}
-use Rattle.door.specs.Images.{odd, recordIn}
+use Rattle.layout.specs.Demand2.{First}
+use Rattle.image.specs.Images.{stands}
 use Rattle.door.specs.Promises.{writeAnswer}
-
--- each byte of field n has a meaning, and the field keeps its rule. Behind a type without meaning fields are judged as on R, and none is the first
-abbrev pub stands : List ℕ → ℕ → Bool
-stands b n = not (odd b n) && holds (recordIn b) n
 
 pub record FirstField : Type 0 where
   -- 01, Order of checks: writing a record: 4 first

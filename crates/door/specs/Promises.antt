@@ -20,7 +20,7 @@ use Rattle.sheet.specs.Promises.{sheetAnswer, sheetFrom}
 use Rattle.piece.specs.Pieces.{nextPiece}
 use Rattle.piece.specs.declared.Ahead.{Ahead}
 use Rattle.piece.specs.declared.Ahead.the-variants.{Piece, Nothing}
-use Rattle.door.specs.Images.{imageOf, recordIn, unwritable}
+use Rattle.image.specs.Images.{imageOf, recordIn, unwritable}
 
 -- 0, or the refusal's number plus 256 times its field
 abbrev pub codeOf : {A : Type 0} → Answer A → ℕ

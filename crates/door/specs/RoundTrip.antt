@@ -1,16 +1,10 @@
--- Reading and writing through the door undo each other. proofs/Forth.antt proves it.
+-- Reading and writing through the door undo each other. proofs/RoundTrip.antt proves it.
 use Prim.Native.Nat.{ℕ, _≤_}
 use mathlib.Core.Path.{_≡_}
-use mathlib.Core.Bool.{true}
 use mathlib.Core.List.{List, _++_}
-use lib.Dec.{ltb}
 use lib.ListN.{length, take, drop}
-use Rattle.field.specs.Byte.{all}
+use Rattle.image.specs.Images.{isBytes}
 use Rattle.door.specs.Promises.{Reads, Writes}
-
--- each is a byte, as in all that a host lends
-abbrev pub isBytes : List ℕ → Type 0
-isBytes b = all (λ x. ltb x 256) b ≡ true
 
 pub record RoundTrip : Type 0 where
   -- a piece was read as the bytes b of a record: they are written as that piece, whatever stood in the lent line

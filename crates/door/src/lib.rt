@@ -1,12 +1,12 @@
 // The door for hosts: every public operation as a C function over numbers, byte slices and lent numbers. Each answers 0, or the refusal's number
 // plus 256 times its field; a refusal changes no lent number and no lent byte. include/skurzelt.h says it for people.
 ghost use mathlib.Core.Path.{_≡_};
-ghost use Prim.Native.Nat.{_+_, _*_};
+ghost use Prim.Native.Nat.{_+_, _*_, _≤_};
+ghost use lib.ListN.{length};
 ghost use Rattle.refusal.specs.Numbers.{fieldOf, numberOf};
+ghost use Rattle.layout.specs.Line.{unlawful};
+ghost use Rattle.image.specs.Images.{recordIn, sooner};
 ghost use Rattle.door.specs.Promises.{BooksIn, Checks, Clocks, Empties, Finds, NextPieces, OrdersAt, Reads, SheetsIn, StrikeForms, StrikeValues, Writes};
-
-mod image;
-
 use book::Booking;
 use line::Outcome;
 use line::StrikeForm;
@@ -18,6 +18,7 @@ use sheet::Writing;
 use table::Found;
 use table::Made;
 use table::damage;
+use writing::Checked;
 use writing::Written;
 
 const DONE: u32 = 0;
@@ -53,6 +54,21 @@ pub extern "C" fn skurzelt_read(piece: &[u8], record: &mut [u8], kind: &mut u64)
     }
 }
 
+// The first field in the way of writing, where odd is that of the first byte without meaning: the rules are looked at for it only where there is one.
+fn first_field(b: &[u8], odd: u8) -> u8
+    requires { ⌜ length (now b) ≡ 138 ⌝ }
+    requires { ⌜ 1 ≤ odd ⌝ }
+    ensures { λ r. ⌜ r ≡ sooner odd (unlawful (recordIn (now (b .entry)))) ⌝ }
+{
+    let Checked::Unlawful(n) = writing::check(image::load(b)) else {
+        return odd;
+    };
+    if n < odd {
+        return n;
+    }
+    odd
+}
+
 // A record of 138 bytes as its line.
 #[no_mangle]
 pub extern "C" fn skurzelt_write(record: &[u8], line: &mut [u8]) -> u32
@@ -66,7 +82,7 @@ pub extern "C" fn skurzelt_write(record: &[u8], line: &mut [u8]) -> u32
     }
     let odd = image::unmeant(record);
     if odd != 0 {
-        return code(Refusal::Field(image::first_field(record, odd)));
+        return code(Refusal::Field(first_field(record, odd)));
     }
     match writing::write(image::load(record), line) {
         Written::Done => DONE,
