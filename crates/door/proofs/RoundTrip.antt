@@ -12,13 +12,12 @@ use lib.Seq.{sets, take-at}
 use Rattle.refusal.specs.Answer.{Answer, value, refused}
 use Rattle.layout.specs.Line.{Said, endOfDay, line, read, lineOf}
 use Rattle.layout.specs.declared.Record.{Record}
-use Rattle.layout.proofs.Answers.{read-back, written-reads}
+use Rattle.layout.proofs.Answers.{read-back, written-reads, length-line}
 use Rattle.layout.proofs.Demand2.{demand2}
 use Rattle.image.specs.Images.{imageOf, recordIn, unwritable}
 use Rattle.image.proofs.Back.{back, image-length}
 use Rattle.image.proofs.Cells.{sets-start}
 use Rattle.image.proofs.Forth.{whole, lawful, image-said}
-use Rattle.image.proofs.Rows.{line-length}
 use Rattle.door.specs.Promises.{codeOf, readAnswer, writeAnswer, Reads, Writes}
 use Rattle.door.specs.RoundTrip.{RoundTrip}
 
@@ -76,7 +75,7 @@ round-trip =
           let n = whole b bytes (free .1) in
           let goes : writeAnswer b before ≡ value tt = rw (le-ltb (length before) 140 (free .0), free .1) in
           let left : after ≡ lineOf r ++ drop 140 before = w .out ∙ rw goes in
-          let piece : take 140 after ≡ lineOf r = ap (take 140) left ∙ take-at (lineOf r) (drop 140 before) 140 (line-length r law) in
+          let piece : take 140 after ≡ lineOf r = ap (take 140) left ∙ take-at (lineOf r) (drop 140 before) 140 (length-line r law) in
           let says : readAnswer (take 140 after) room ≡ value (line r) = rw (le-ltb (length room) 138 h, piece) (written-reads r law) in
           let stored = rw n at (sets-start room b (omega arith)) in
           (x .said ∙ rw says, x .told ∙ rw says, x .out ∙ rw (says, image-said b bytes (free .1)) stored);

@@ -23,13 +23,13 @@ use Rattle.layout.specs.declared.Event.{Event}
 use Rattle.layout.specs.declared.Event.the-variants.{Accepted, Executed, Cancelled, Broken, Replaced, Repriced}
 use Rattle.layout.specs.declared.Record.{Record}
 use Rattle.layout.specs.declared.Trade.{Trade}
-use Rattle.layout.proofs.Answers.{read-back}
+use Rattle.layout.proofs.Answers.{read-back, length-line}
 use Rattle.layout.proofs.Rules.{both}
 use Rattle.record.proofs.Events.{type-lawful, liquidity-text}
 use Rattle.image.specs.Images.{imageOf, oddId, recordIn, unmeant, unwritable}
 use Rattle.image.proofs.Cells.{cells, cellAt, apart, clear, numbers-are-cells, length-cells, part-apart, part-cell}
 use Rattle.image.proofs.Odd.{all-meant}
-use Rattle.image.proofs.Rows.{rowOf, all-lawful, line-length, field-bytes}
+use Rattle.image.proofs.Rows.{rowOf, all-lawful, field-bytes}
 use Rattle.image.proofs.Sooner.{rule-in-the-way}
 
 -- ---- the bytes of a number past those that it needs
@@ -85,7 +85,7 @@ module _ (r : Record) (h : LawfulRecord r) where
   image = imageOf r
 
   front-length : length (take 138 (lineOf r)) ≡ 138
-  front-length = length-take-le 138 (lineOf r) (omega (arith, line-length r h))
+  front-length = length-take-le 138 (lineOf r) (omega (arith, length-line r h))
 
   pub image-length : length image ≡ 138
   unfolding imageOf

@@ -4,7 +4,7 @@ use native.Mathlib.Omega.{arith}
 use mathlib.Core.Path.{_≡_, refl, _∙_}
 use mathlib.Core.Bool.{true}
 use mathlib.Core.List.{List, _++_, append-assoc}
-use lib.ListN.{length, getD, drop, length-append}
+use lib.ListN.{length, getD, drop}
 use lib.Seq.{take-at, drop-at, drop-drop}
 use Rattle.layout.specs.Demand2.{holds, LawfulRecord}
 use Rattle.layout.specs.Layout.{Row, noRow, layout, part, writeRows}
@@ -15,7 +15,7 @@ use Rattle.layout.specs.declared.Event.{Event}
 use Rattle.layout.specs.declared.Event.the-variants.{Accepted, Executed, Cancelled, Broken, Replaced, Repriced}
 use Rattle.layout.specs.declared.Record.{Record}
 use Rattle.layout.proofs.First.{every-first, first-every}
-use Rattle.layout.proofs.Rows.{tiles, Lawful, none, more, first-lawful, lawful-width}
+use Rattle.layout.proofs.Rows.{tiles, Lawful, none, more, first-lawful}
 use Rattle.layout.proofs.Rules.{writes-reads}
 
 abbrev pub rowOf : List Row → ℕ → Row
@@ -54,10 +54,6 @@ module _ (r : Record) (h : LawfulRecord r) where
   pub all-lawful : unlawful r ≡ 0
   unfolding unlawful
   all-lawful = every-first (holds r) (h .fields)
-
-  pub line-length : length (lineOf r) ≡ 140
-  unfolding lineOf
-  line-length = length-append (writeRows (rowsFor r) (fieldsOf r)) crlf ∙ rw (lawful-width law)
 
   -- the bytes of field k + 1
   pub field-bytes : (k : ℕ) → k < 24

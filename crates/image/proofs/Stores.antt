@@ -4,19 +4,17 @@ use native.Mathlib.Omega.{arith}
 use mathlib.Core.Path.{_≡_, ap, ap₂, _∙_}
 use mathlib.Core.Bool.{true}
 use mathlib.Core.List.{List}
-use borrow.Author.Tests.{eqb-true}
-use lib.Dec.{eqb}
-use lib.ListN.{length, take, drop}
+use lib.ListN.{length, take}
 use lib.Seq.{sets, length-take-le}
 use Rattle.refusal.specs.Answer.{value}
 use Rattle.cell.specs.Cells.{leBytes}
-use Rattle.layout.specs.Line.{line, read, crlf, same}
+use Rattle.layout.specs.Line.{line, read}
 use Rattle.layout.specs.Records.{tradeOf}
 use Rattle.layout.specs.declared.Record.{Record}
 use Rattle.layout.specs.declared.Trade.{Trade}
 use Rattle.layout.proofs.Answers.{read-back}
 use Rattle.layout.proofs.Demand2.{demand2}
-use Rattle.layout.proofs.Rules.{both}
+use Rattle.layout.proofs.Lines.{line-length}
 use Rattle.image.specs.Images.{idsSet, earlySet, lateSet, imageOf}
 use Rattle.image.proofs.Cells.{cells, fitting, numbers-are-cells, cells-inside}
 
@@ -36,9 +34,7 @@ module _ (b c d : List ℕ) where
 
 -- a piece that says a record is 140 bytes long
 pub said-length : (p : List ℕ) (r : Record) → read p ≡ value (line r) → length p ≡ 140
-said-length p r e =
-    let shape = demand2 .lawful-reads p .1 (r, e) .shape in
-    eqb-true (length p) 140 (both (eqb (length p) 140) (same (drop 138 p) crlf) shape .0)
+said-length p r e = line-length p (demand2 .lawful-reads p .1 (r, e) .shape)
 
 pub image-stored : (p b : List ℕ) (r : Record) (c d e f : List ℕ) (t : Trade) → read p ≡ value (line r) → 138 ≤ length b
     → c ≡ sets b 0 (take 138 p) → d ≡ earlySet r c → e ≡ lateSet r d → t ≡ tradeOf (r .event) → f ≡ idsSet t e → f ≡ sets b 0 (imageOf r)

@@ -1,20 +1,19 @@
 -- The ways out of writing a record, each as the promise says it.
 use Prim.Native.Nat.{ℕ, _+_, _≤_, _<_}
 use mathlib.Core.Path.{_≡_, refl, sym, _∙_}
-use mathlib.Core.Bool.{Bool, true, false, cond, and-eq-true-iff}
+use mathlib.Core.Bool.{Bool, true, false, cond}
 use mathlib.Core.List.{List}
 use native.Mathlib.Omega.{arith}
-use borrow.Author.Tests.{eqb-true, lt-ltb, le-ltb}
+use borrow.Author.Tests.{lt-ltb, le-ltb}
 use lib.Dec.{eqb}
-use lib.ListN.{length, drop}
+use lib.ListN.{length}
 use lib.Seq.{sets, sets-eq}
 use Rattle.refusal.specs.Answer.{value}
 use Rattle.refusal.specs.declared.Refusal.the-variants.{NoRoom, Field}
-use Rattle.layout.specs.Line.{crlf, same, lineOf, unlawful}
+use Rattle.layout.specs.Line.{lineOf, unlawful}
 use Rattle.layout.specs.Line.{write as writeLine}
 use Rattle.layout.specs.declared.Record.{Record}
-use Rattle.layout.proofs.Answers.{write-says}
-use Rattle.layout.proofs.Lines.{record-line}
+use Rattle.layout.proofs.Answers.{length-line, write-says}
 use Rattle.writing.specs.Promises.{Write}
 use Rattle.writing.specs.Writes.{checkOf, checkFrom, lineFrom}
 use Rattle.writing.specs.declared.Checked.{Checked}
@@ -51,15 +50,9 @@ module _ (r : Record) (l : List ℕ) where
     unfolding unlawful
     all-lawful k = rw (le-ltb (length l) 140 h, none-named (unlawful r) (sym e ∙ k))
 
-    -- the line of a lawful record has 140 bytes
-    line-length : x ≡ Lawful → length (lineOf r) ≡ 140
-    line-length k =
-        let shape = record-line r (lineOf r) (write-says r l (all-lawful k)) refl .0 .shape in
-        eqb-true (length (lineOf r)) 140 (and-eq-true-iff (eqb (length (lineOf r)) 140) (same (drop 138 (lineOf r)) crlf) .0 shape .0)
-
     pub whole-line : (y : List ℕ) → x ≡ Lawful → y ≡ sets l 0 (lineFrom 0 r) → Write r l Done y
     unfolding lineOf lineFrom
     whole-line y k p =
-        let n = line-length k in
+        let n = length-line r (write-says r l (all-lawful k)) in
         let fits : 0 + length (lineOf r) ≤ length l = omega arith in
         record { said = sym (all-lawful k); out = p ∙ sets-eq (lineOf r) l 0 fits ∙ rw (n, all-lawful k) }
