@@ -1,12 +1,12 @@
 // Reading a piece; the value and the form of a strike; the time of day.
-mod piece;
+mod fields;
 mod strikes;
 mod times;
 
+pub use fields::read;
 use layout::Clock;
 use layout::Record;
 use layout::Strike;
-pub use piece::read;
 use refusal::Refusal;
 pub use strikes::strike_form;
 pub use strikes::strike_value;

@@ -86,11 +86,11 @@ fn order_fields(r: Record) -> Checked
     if !kept::member(r.month, &rule::MONTHS) {
         return Checked::Unlawful(17);
     }
-    series_fields(r)
+    price_fields(r)
 }
 
-// Fields 18 to 22.
-fn series_fields(r: Record) -> Checked
+// Fields 18 to 22: the date and year, the strike, the price.
+fn price_fields(r: Record) -> Checked
     ensures { λ x. ⌜ x ≡ checkFrom 17 r ⌝ }
 {
     if !rule::within(r.date, rule::FIRST_DATE, rule::LAST_DATE) {

@@ -87,11 +87,11 @@ fn order_fields(r: Record, out: &mut [u8])
     let root = r.root;
     put::run(out, 92, &root);
     put::byte(out, 98, r.month);
-    series_fields(r, out);
+    price_fields(r, out);
 }
 
-// Fields 18 to 22.
-fn series_fields(r: Record, out: &mut [u8])
+// Fields 18 to 22: the date and year, the strike, the price.
+fn price_fields(r: Record, out: &mut [u8])
     requires { ⌜ 140 ≤ length (now out) ⌝ }
     ensures { λ _. ⌜ now (out .exit) ≡ sets (now (out .entry)) 99 (lineFrom 17 r) ⌝ }
 {

@@ -100,11 +100,11 @@ past-17 c =
     let s = c .before .before .before .before .before .before .before .before .before .before .before .before .before .before .before .before .before .before in
     test-passes 16 (s .args .r) (lit< tt) (c .before .member2 .ensures) (c .if3 .left) ∙ past-16 (c .before .before .before)
 
-series-fields-requires : tie.Need-series-fields-requires
-series-fields-requires c κs = search needs
+price-fields-requires : tie.Need-price-fields-requires
+price-fields-requires c κs = search needs
 
 returns-6 : tie.Need-returns-6
-returns-6 c = c .series-fields .ensures ∙ past-17 (c .before)
+returns-6 c = c .price-fields .ensures ∙ past-17 (c .before)
 
 pub order-fields-spec : {M : Type 1} → statement M
 order-fields-spec =
@@ -128,5 +128,5 @@ order-fields-spec =
     slice-aggregate-member-2
     member-requires-2
     returns-5
-    series-fields-requires
+    price-fields-requires
     returns-6)

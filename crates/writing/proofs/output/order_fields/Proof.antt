@@ -32,8 +32,8 @@ run-requires-2 c κs = omega (arith, sized (c .before .before .before .before .b
 byte-requires-2 : tie.Need-byte-requires-2
 byte-requires-2 c κs = search needs
 
-series-fields-requires : tie.Need-series-fields-requires
-series-fields-requires c κs = search needs
+price-fields-requires : tie.Need-price-fields-requires
+price-fields-requires c κs = search needs
 
 same-length : tie.Need-same-length
 same-length c = search needs
@@ -52,7 +52,7 @@ returns c =
     (field-then 14 (s .args .r) _ _ (lit< tt) (refl, refl) (c15 .filled .ensures)
     (field-then 15 (s .args .r) _ _ (lit< tt) (refl, sized s .root) (c16 .run2 .ensures)
     (field-then 16 (s .args .r) _ _ (lit< tt) (refl, refl) (c17 .byte2 .ensures)
-    (d .series-fields .ensures)))))
+    (d .price-fields .ensures)))))
 
 pub order-fields-spec : {M : Type 1} → statement M
 order-fields-spec =
@@ -65,6 +65,6 @@ order-fields-spec =
     slice-aggregate-run-2
     run-requires-2
     byte-requires-2
-    series-fields-requires
+    price-fields-requires
     same-length
     returns)

@@ -1,8 +1,8 @@
--- `line::piece::refused` meets its contract.
+-- `line::fields::refused` meets its contract.
 use borrow.Author.Needs.{needs}
 use Rattle.line.specs.declared.Outcome.the-variants.{Refused}
-use Rattle.line.proofs.piece.refused.Statement.{statement}
-use Rattle.line.proofs.piece.refused.Tie as tie
+use Rattle.line.proofs.fields.refused.Statement.{statement}
+use Rattle.line.proofs.fields.refused.Tie as tie
 
 blank-record-requires : tie.Need-blank-record-requires
 blank-record-requires c κs = search needs

@@ -1,4 +1,4 @@
--- `line::piece::order_fields` meets its contract.
+-- `line::fields::order_fields` meets its contract.
 use Prim.Native.Nat.{ℕ}
 use mathlib.Core.List.{List}
 use mathlib.Core.Path.{_≡_}
@@ -12,8 +12,8 @@ use Rattle.layout.specs.declared.Numbers.{Numbers}
 use Rattle.line.specs.declared.Reading.{Reading}
 use Rattle.line.specs.Groups.{readingFrom}
 use Rattle.line.proofs.Steps.{withContracts, past, stops, kind-good, kind-bad, code-good, code-bad, value-good, value-bad}
-use Rattle.line.proofs.piece.order_fields.Statement.{statement}
-use Rattle.line.proofs.piece.order_fields.Tie as tie
+use Rattle.line.proofs.fields.order_fields.Statement.{statement}
+use Rattle.line.proofs.fields.order_fields.Tie as tie
 
 abbrev piece-13 : tie.After-enum-told → List ℕ
 piece-13 c = now (c .before .before .before .before .before .args .s)
@@ -224,11 +224,11 @@ returns-5 c =
     let n = numbers-16 (c .before .before .before .before .before .before) in
     past-16 (c .before .before .before .before .before .before) _ (stops 16 n s _ (lit< tt) (code-bad months (part s 98 1) _ (c .before .before .before .code2 .ensures) (c .before .enum-told9 .given .1)) (c .refused5 .ensures))
 
-series-fields-requires : tie.Need-series-fields-requires
-series-fields-requires c κs = search needs
+price-fields-requires : tie.Need-price-fields-requires
+price-fields-requires c κs = search needs
 
 returns-6 : tie.Need-returns-6
-returns-6 c = past-17 (c .before) _ (c .series-fields .ensures)
+returns-6 c = past-17 (c .before) _ (c .price-fields .ensures)
 
 pub order-fields-spec : {M : Type 1} → statement M
 order-fields-spec =
@@ -276,5 +276,5 @@ order-fields-spec =
     enum-told-9
     refused-requires-5
     returns-5
-    series-fields-requires
+    price-fields-requires
     returns-6)

@@ -1,10 +1,10 @@
--- `writing::lawful::series_fields` meets its contract. past-N: where field N is passed, the group's fields up to it are lawful.
+-- `writing::lawful::price_fields` meets its contract. past-N: where field N is passed, the group's fields up to it are lawful.
 use mathlib.Core.Path.{_∙_}
 use borrow.Author.Needs.{needs}
 use lib.Dec.{lit<}
 use Rattle.writing.proofs.Checks.{Past, test-passes, test-fails, price-is}
-use Rattle.writing.proofs.lawful.series_fields.Statement.{statement}
-use Rattle.writing.proofs.lawful.series_fields.Tie as tie
+use Rattle.writing.proofs.lawful.price_fields.Statement.{statement}
+use Rattle.writing.proofs.lawful.price_fields.Tie as tie
 
 within-requires : tie.Need-within-requires
 within-requires c κs = search needs
@@ -80,8 +80,8 @@ trade-fields-requires c κs = search needs
 returns-6 : tie.Need-returns-6
 returns-6 c = c .trade-fields .ensures ∙ past-22 (c .before)
 
-pub series-fields-spec : {M : Type 1} → statement M
-series-fields-spec =
+pub price-fields-spec : {M : Type 1} → statement M
+price-fields-spec =
     tie.close
     (tie.spec
     within-requires

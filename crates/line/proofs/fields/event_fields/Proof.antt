@@ -1,4 +1,4 @@
--- `line::piece::event_fields` meets its contract.
+-- `line::fields::event_fields` meets its contract.
 use Prim.Native.Nat.{ℕ}
 use mathlib.Core.Bool.{Bool}
 use mathlib.Core.Path.{_∙_, ap, _≡_}
@@ -17,8 +17,8 @@ use Rattle.layout.specs.declared.Numbers.{Numbers}
 use Rattle.line.specs.declared.Reading.{Reading}
 use Rattle.line.proofs.Steps.{withTimestamp, past, stops, kind-good, kind-bad, code-good, code-bad, value-good, value-bad}
 use Rattle.rule.proofs.Answers.{code-on-good, on-bad}
-use Rattle.line.proofs.piece.event_fields.Statement.{statement}
-use Rattle.line.proofs.piece.event_fields.Tie as tie
+use Rattle.line.proofs.fields.event_fields.Statement.{statement}
+use Rattle.line.proofs.fields.event_fields.Tie as tie
 
 abbrev piece-1 : tie.After-known-told → List ℕ
 piece-1 c = now (c .before .before .before .before .before .before .args .s)

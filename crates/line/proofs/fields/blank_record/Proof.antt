@@ -1,8 +1,8 @@
--- `line::piece::blank_record` meets its contract.
+-- `line::fields::blank_record` meets its contract.
 use mathlib.Core.Path.{refl}
 use Rattle.line.specs.Promises.{blankRecord}
-use Rattle.line.proofs.piece.blank_record.Statement.{statement}
-use Rattle.line.proofs.piece.blank_record.Tie as tie
+use Rattle.line.proofs.fields.blank_record.Statement.{statement}
+use Rattle.line.proofs.fields.blank_record.Tie as tie
 
 returns : tie.Need-returns
 unfolding blankRecord

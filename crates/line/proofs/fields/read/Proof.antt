@@ -1,10 +1,10 @@
--- `line::piece::read` meets its contract.
+-- `line::fields::read` meets its contract.
 use borrow.Author.Tests.{not-true, not-false}
 use borrow.Author.Needs.{needs}
 use denote.Ref.{now}
 use Rattle.line.proofs.Readings.{end-of-day, other-length, other-end, odd-byte, by-fields}
-use Rattle.line.proofs.piece.read.Statement.{statement}
-use Rattle.line.proofs.piece.read.Tie as tie
+use Rattle.line.proofs.fields.read.Statement.{statement}
+use Rattle.line.proofs.fields.read.Tie as tie
 
 is-crlf-requires : tie.Need-is-crlf-requires
 is-crlf-requires c κs = search needs

@@ -1,4 +1,4 @@
--- `line::piece::account_fields` meets its contract.
+-- `line::fields::account_fields` meets its contract.
 use Prim.Native.Nat.{ℕ}
 use mathlib.Core.Bool.{Bool}
 use mathlib.Core.List.{List}
@@ -15,8 +15,8 @@ use Rattle.line.specs.Groups.{readingFrom}
 use Rattle.line.proofs.Steps.{past, stops, kind-good, kind-bad}
 use Rattle.rule.specs.ByType.{keptOn}
 use Rattle.rule.proofs.Answers.{kind-on-good, on-bad}
-use Rattle.line.proofs.piece.account_fields.Statement.{statement}
-use Rattle.line.proofs.piece.account_fields.Tie as tie
+use Rattle.line.proofs.fields.account_fields.Statement.{statement}
+use Rattle.line.proofs.fields.account_fields.Tie as tie
 
 abbrev piece-7 : tie.After-enum-told → List ℕ
 piece-7 c = now (c .before .before .before .before .before .args .s)

@@ -1,4 +1,4 @@
--- `line::piece::series_fields` meets its contract.
+-- `line::fields::price_fields` meets its contract.
 use Prim.Native.Nat.{ℕ}
 use mathlib.Core.Path.{_∙_, ap, _≡_}
 use mathlib.Core.List.{List}
@@ -13,8 +13,8 @@ use Rattle.layout.specs.declared.Numbers.{Numbers}
 use Rattle.line.specs.declared.Reading.{Reading}
 use Rattle.line.specs.Groups.{readingFrom}
 use Rattle.line.proofs.Steps.{withSeries, past, stops, code-good, code-bad, value-good, value-bad}
-use Rattle.line.proofs.piece.series_fields.Statement.{statement}
-use Rattle.line.proofs.piece.series_fields.Tie as tie
+use Rattle.line.proofs.fields.price_fields.Statement.{statement}
+use Rattle.line.proofs.fields.price_fields.Tie as tie
 
 abbrev piece-18 : tie.After-known-told → List ℕ
 piece-18 c = now (c .before .before .before .before .before .before .args .s)
@@ -240,8 +240,8 @@ trade-fields-requires c κs = search needs
 returns-6 : tie.Need-returns-6
 returns-6 c = past-22 (c .before) _ (c .trade-fields .ensures)
 
-pub series-fields-spec : {M : Type 1} → statement M
-series-fields-spec =
+pub price-fields-spec : {M : Type 1} → statement M
+price-fields-spec =
     tie.close
     (tie.spec
     sub-exactly

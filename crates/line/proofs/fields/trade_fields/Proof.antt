@@ -1,4 +1,4 @@
--- `line::piece::trade_fields` meets its contract.
+-- `line::fields::trade_fields` meets its contract.
 use Prim.Native.Nat.{ℕ}
 use mathlib.Core.Bool.{Bool}
 use mathlib.Core.Path.{_∙_, ap, _≡_}
@@ -16,8 +16,8 @@ use Rattle.line.specs.declared.Reading.{Reading}
 use Rattle.line.proofs.Whole.{all-read}
 use Rattle.line.proofs.Steps.{withIds, past, stops}
 use Rattle.rule.proofs.Answers.{id-good, id-bad, id-number}
-use Rattle.line.proofs.piece.trade_fields.Statement.{statement}
-use Rattle.line.proofs.piece.trade_fields.Tie as tie
+use Rattle.line.proofs.fields.trade_fields.Statement.{statement}
+use Rattle.line.proofs.fields.trade_fields.Tie as tie
 
 abbrev piece-23 : tie.After-known-told → List ℕ
 piece-23 c = now (c .before .before .before .before .before .before .before .before .args .s)

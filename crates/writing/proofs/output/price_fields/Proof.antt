@@ -1,10 +1,10 @@
--- `writing::output::series_fields` meets its contract. Its places: cN where field N is stored, d where the rest is, s where it starts.
+-- `writing::output::price_fields` meets its contract. Its places: cN where field N is stored, d where the rest is, s where it starts.
 use mathlib.Core.Path.{refl}
 use borrow.Author.Needs.{needs}
 use lib.Dec.{lit<}
 use Rattle.writing.proofs.Puts.{field-then}
-use Rattle.writing.proofs.output.series_fields.Statement.{statement}
-use Rattle.writing.proofs.output.series_fields.Tie as tie
+use Rattle.writing.proofs.output.price_fields.Statement.{statement}
+use Rattle.writing.proofs.output.price_fields.Tie as tie
 
 filled-requires : tie.Need-filled-requires
 filled-requires c κs = search needs
@@ -43,8 +43,8 @@ returns c =
     (field-then 21 (s .args .r) _ _ (lit< tt) (refl, refl) (c22 .price .ensures)
     (d .trade-fields .ensures)))))
 
-pub series-fields-spec : {M : Type 1} → statement M
-series-fields-spec =
+pub price-fields-spec : {M : Type 1} → statement M
+price-fields-spec =
     tie.close
     (tie.spec
     filled-requires

@@ -176,11 +176,11 @@ fn order_fields(s: &[u8], n: Numbers) -> Reading
     };
     let mut m = n;
     m.contracts = contracts;
-    series_fields(s, m)
+    price_fields(s, m)
 }
 
-// Fields 18 to 22.
-fn series_fields(s: &[u8], n: Numbers) -> Reading
+// Fields 18 to 22: the date and year, the strike, the price.
+fn price_fields(s: &[u8], n: Numbers) -> Reading
     requires { ⌜ length (now s) ≡ 140 ⌝ }
     ensures { λ r. ⌜ r ≡ readingFrom 17 n (now (s .entry)) ⌝ }
 {

@@ -1,9 +1,9 @@
--- `line::piece::is_crlf` meets its contract.
+-- `line::fields::is_crlf` meets its contract.
 use borrow.Author.Needs.{needs}
 use denote.Ref.{now}
 use Rattle.line.proofs.Readings.{not-two, two-bytes}
-use Rattle.line.proofs.piece.is_crlf.Statement.{statement}
-use Rattle.line.proofs.piece.is_crlf.Tie as tie
+use Rattle.line.proofs.fields.is_crlf.Statement.{statement}
+use Rattle.line.proofs.fields.is_crlf.Tie as tie
 
 returns : tie.Need-returns
 returns c = not-two (now (c .before .args .s)) (c .if1 .taken)
