@@ -1,8 +1,7 @@
 -- What holds of a line that no refusal from 6 to 12 applies to, and of the order that it speaks of.
-use Prim.Native.Nat.{ℕ, _<_}
-use native.Mathlib.Omega.{arith}
+use Prim.Native.Nat.{ℕ}
 use mathlib.Core.Path.{_≡_, refl}
-use mathlib.Core.Bool.{Bool, true, false, cond, not, _&&_}
+use mathlib.Core.Bool.{false, not, _&&_}
 use mathlib.Core.List.{List}
 use borrow.Author.Tests.{not-false}
 use lib.Dec.{leb}
@@ -12,9 +11,10 @@ use Rattle.layout.specs.declared.Record.{Record}
 use Rattle.order.specs.Names.{keyOf}
 use Rattle.order.specs.declared.Order.{Order}
 use Rattle.day.specs.History.{isNew, isMaker}
-use Rattle.day.specs.Machine.{found, find, isFound, differs, notOpen, notExecuted, refusalOf}
+use Rattle.day.specs.Machine.{found, find, isFound, notOpen, notExecuted, checks, refusalOf}
 use Rattle.day.specs.Tables.{Table}
 use Rattle.day.specs.Refusals.{subject}
+use Rattle.day.proofs.Chain.{testOf, passed}
 use Rattle.day.proofs.Orders.{Finds, finds, finds-found}
 
 -- the tests behind 7, 8, 10, 11 and 12 failed
@@ -25,23 +25,10 @@ pub record Admitted (limit : ℕ) (os : List Order) (r : Record) : Type 0 where
   pub in-executed : (not (isNew (r .event)) && notExecuted r (find (subject r) os)) ≡ false
   pub room : (isMaker (r .event) && leb limit (length os)) ≡ false
 
--- a test that would have refused has failed
-failed : (t : Bool) (n rest : ℕ) → 0 < n → cond t n rest ≡ 0 → (t ≡ false) × (rest ≡ 0)
-failed true n rest p e = absurd (omega arith)
-failed false n rest p e = (refl, e)
-
 pub admitted : (limit : ℕ) (t : Table) (r : Record) → refusalOf limit t (line r) ≡ 0 → Admitted limit (t .orders) r
 admitted limit t r e =
-    let older = not (isNew (r .event)) in
-    let theirs = find (subject r) (t .orders) in
-    let e6 = failed (t .over) 6 _ (omega arith) e in
-    let e7 = failed (isMaker (r .event) && isFound (find (keyOf r) (t .orders))) 7 _ (omega arith) (e6 .1) in
-    let e8 = failed (older && not (isFound theirs)) 8 _ (omega arith) (e7 .1) in
-    let e9 = failed (older && differs r theirs) 9 _ (omega arith) (e8 .1) in
-    let e10 = failed (older && notOpen r theirs) 10 _ (omega arith) (e9 .1) in
-    let e11 = failed (older && notExecuted r theirs) 11 _ (omega arith) (e10 .1) in
-    let e12 = failed (isMaker (r .event) && leb limit (length (t .orders))) 12 0 (omega arith) (e11 .1) in
-    record { fresh = e7 .0; known = e8 .0; in-open = e10 .0; in-executed = e11 .0; room = e12 .0 }
+    let failed : (n : ℕ) → testOf t (line r) n (checks limit) ≡ false = λ n. passed t (line r) n (checks limit) refl e in
+    record { fresh = failed 7; known = failed 8; in-open = failed 10; in-executed = failed 11; room = failed 12 }
 
 -- the order that a line other than an A speaks of
 pub record Spoken (os : List Order) (r : Record) (o : Order) : Type 0 where

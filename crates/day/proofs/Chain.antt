@@ -1,14 +1,19 @@
--- A chain of tests, each saying that a rule applies, answers by the first rule that applies.
-use Prim.Native.Nat.{ℕ, _≤_}
+-- A list of checks, each saying that a rule applies, answers by the first rule that applies.
+use Prim.Native.Nat.{ℕ}
 use native.Mathlib.Omega.{arith}
 use mathlib.Core.Path.{_≡_, refl, sym, ap, subst, _∙_}
 use mathlib.Core.Logic.{inl, inr, _↔_}
-use mathlib.Core.Bool.{Bool, true, false, cond, false≢true}
-use mathlib.Core.List.{List, [], _∷_}
-use borrow.Author.Tests.{ne-eqb}
+use mathlib.Core.Bool.{Bool, true, false, cond, not, false≢true}
+use mathlib.Core.List.{List, [], _∷_, map}
+use borrow.Author.Tests.{not-true, eqb-false}
 use lib.Dec.{eqb}
+use Rattle.field.specs.Byte.{all}
 use Rattle.refusal.specs.Answer.{Answer, value, refused}
+use Rattle.layout.proofs.Rules.{both}
+use Rattle.layout.specs.Line.{Said}
+use Rattle.day.specs.Machine.{Check, firstOf}
 use Rattle.day.specs.Refusals.{Rule, rule, NoneOf, FirstOf}
+use Rattle.day.specs.Tables.{Table}
 
 -- ---- an answer by the first rule that applies
 
@@ -42,6 +47,19 @@ judged-refused rs a n j = (λ h. subst (Judged rs) (h .1) j, go a j)
     go (value u) j h = absurd (none-first rs n j h)
     go (refused m f) j h = (f, ap (λ (k : ℕ). refused k f) (one-first rs m n j h))
 
+-- the rule with a number
+abbrev pub ruleOf : ℕ → List Rule → Type 0
+ruleOf n [] = ⊥
+ruleOf n (r ∷ rs) = cond (eqb (r .number) n) (r .applies) (ruleOf n rs)
+
+pub none-of : (n : ℕ) (rs : List Rule) → NoneOf rs → ruleOf n rs → ⊥
+none-of n [] h k = k
+none-of n (r ∷ rs) h k = go (eqb (r .number) n) (none-of n rs (h .1)) k
+  where
+    go : (b : Bool) → (ruleOf n rs → ⊥) → cond b (r .applies) (ruleOf n rs) → ⊥
+    go true others k = h .0 k
+    go false others k = others k
+
 -- a rule that does not apply changes nothing
 pub skipped : (rs : List Rule) (n : ℕ) (P : Type 0) (a : Answer (Unit {0})) → (P → ⊥) → Judged rs a → Judged (rule n P ∷ rs) a
 skipped rs n P (value u) x j = (x, j)
@@ -52,25 +70,25 @@ skipped rs n P (refused m f) x j = inr (x, j)
 abbrev pub Says : Bool → Type 0 → Type 0
 Says b P = (b ≡ true) ↔ P
 
--- a test that says that a rule applies; reading has 1 to 3
-pub record Check : Type 1 where
-  pub number : ℕ
-  pub test : Bool
-  pub applies : Type 0
-  pub says : Says test applies
-  pub after : 4 ≤ number
+module _ (t : Table) (x : Said) where
+  -- check by check, the rule with its number applies where its test refuses
+  abbrev pub Agree : List Check → List Rule → Type 0
+  Agree [] [] = Unit {0}
+  Agree [] (r ∷ rs) = ⊥
+  Agree (c ∷ cs) [] = ⊥
+  Agree (c ∷ cs) (r ∷ rs) = ((c .number ≡ r .number) × Says (c .test t x) (r .applies)) × Agree cs rs
 
-abbrev pub check : (n : ℕ) {b : Bool} {P : Type 0} → Says b P → 4 ≤ n → Check
-check n {b} {P} s a = record { number = n; test = b; applies = P; says = s; after = a }
+  -- the test with a number
+  abbrev pub testOf : ℕ → List Check → Bool
+  testOf n [] = false
+  testOf n (c ∷ cs) = cond (eqb (c .number) n) (c .test t x) (testOf n cs)
 
-abbrev pub rulesOf : List Check → List Rule
-rulesOf [] = []
-rulesOf (c ∷ cs) = rule (c .number) (c .applies) ∷ rulesOf cs
+abbrev pub numbersOf : List Check → List ℕ
+numbersOf cs = map (λ (c : Check). c .number) cs
 
--- the number of the first test that passes, or 0
-abbrev pub firstOf : List Check → ℕ
-firstOf [] = 0
-firstOf (c ∷ cs) = cond (c .test) (c .number) (firstOf cs)
+-- 0 is no refusal's number
+abbrev pub numbered : List Check → Bool
+numbered cs = all (λ n. not (eqb n 0)) (numbersOf cs)
 
 abbrev pub answerBy : ℕ → Answer (Unit {0})
 answerBy n = cond (eqb n 0) (value tt) (refused n 0)
@@ -82,19 +100,43 @@ refused-by n m f e = go (eqb n 0) e
     go true q = let z : _≡_ {A = ℕ} 0 1 = cc in absurd (omega arith)
     go false q = (cc, cc)
 
-pub chain-judged : (cs : List Check) → Judged (rulesOf cs) (answerBy (firstOf cs))
-chain-judged [] = tt
-chain-judged (c ∷ cs) = go (c .test) (c .says) (chain-judged cs)
-  where
-    go : (t : Bool) → Says t (c .applies) → Judged (rulesOf cs) (answerBy (firstOf cs))
-        → Judged (rulesOf (c ∷ cs)) (answerBy (cond t (c .number) (firstOf cs)))
-    go true s j = rw (ne-eqb (c .number) 0 (λ z. absurd (omega (arith, c .after)))) (inl (s .0 refl, refl))
-    go false s j = skipped (rulesOf cs) (c .number) (c .applies) (answerBy (firstOf cs)) (λ a. false≢true (s .1 a)) j
+module _ (t : Table) (x : Said) where
+  -- what holds of 0 and of each number holds of the first
+  pub first-number : (P : ℕ → Bool) (cs : List Check) → P 0 ≡ true → all P (numbersOf cs) ≡ true → P (firstOf cs t x) ≡ true
+  first-number P [] z h = z
+  first-number P (c ∷ cs) z h =
+      let (first, others) = both (P (c .number)) (all P (numbersOf cs)) h in
+      go (c .test t x) first (first-number P cs z others)
+    where
+      go : (b : Bool) → P (c .number) ≡ true → P (firstOf cs t x) ≡ true → P (cond b (c .number) (firstOf cs t x)) ≡ true
+      go true p q = p
+      go false p q = q
 
-pub chain-after : (cs : List Check) → firstOf cs ≡ 3 → ⊥
-chain-after [] e = omega arith
-chain-after (c ∷ cs) e = go (c .test) (chain-after cs) e
-  where
-    go : (t : Bool) → (firstOf cs ≡ 3 → ⊥) → cond t (c .number) (firstOf cs) ≡ 3 → ⊥
-    go true n e = omega (arith, c .after)
-    go false n e = n e
+  pub chain-judged : (cs : List Check) (rs : List Rule) → numbered cs ≡ true → Agree t x cs rs → Judged rs (answerBy (firstOf cs t x))
+  chain-judged [] [] h a = tt
+  chain-judged [] (r ∷ rs) h a = absurd a
+  chain-judged (c ∷ cs) [] h a = absurd a
+  chain-judged (c ∷ cs) (r ∷ rs) h a =
+      let (first, others) = both (not (eqb (c .number) 0)) (numbered cs) h in
+      go (c .test t x) (a .0 .1) (not-true (eqb (c .number) 0) first) (chain-judged cs rs others (a .1))
+    where
+      go : (b : Bool) → Says b (r .applies) → eqb (c .number) 0 ≡ false → Judged rs (answerBy (firstOf cs t x))
+          → Judged (r ∷ rs) (answerBy (cond b (c .number) (firstOf cs t x)))
+      go true s z j = rw z (inl (s .0 refl, a .0 .0))
+      go false s z j = skipped rs (r .number) (r .applies) (answerBy (firstOf cs t x)) (λ k. false≢true (s .1 k)) j
+
+  -- where none refuses, the test with whatever number does not
+  pub passed : (n : ℕ) (cs : List Check) → numbered cs ≡ true → firstOf cs t x ≡ 0 → testOf t x n cs ≡ false
+  passed n [] h e = refl
+  passed n (c ∷ cs) h e =
+      let (first, others) = both (not (eqb (c .number) 0)) (numbered cs) h in
+      go (c .test t x) (eqb-false (c .number) 0 (not-true (eqb (c .number) 0) first)) (passed n cs others) e
+    where
+      of-two : (b : Bool) {u v : Bool} → u ≡ false → v ≡ false → cond b u v ≡ false
+      of-two true p q = p
+      of-two false p q = q
+
+      go : (b : Bool) → (c .number ≡ 0 → ⊥) → (firstOf cs t x ≡ 0 → testOf t x n cs ≡ false) → cond b (c .number) (firstOf cs t x) ≡ 0
+          → cond (eqb (c .number) n) b (testOf t x n cs) ≡ false
+      go true z ih e = absurd (z e)
+      go false z ih e = of-two (eqb (c .number) n) refl (ih e)

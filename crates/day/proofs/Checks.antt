@@ -4,7 +4,7 @@ use native.Mathlib.Omega.{arith}
 use mathlib.Core.Path.{_≡_, refl, sym, ap, subst, _∙_}
 use mathlib.Core.Logic.{_⊎_, inl, inr, Iff·rfl}
 use mathlib.Core.Bool.{Bool, true, false, cond, not, _&&_, _||_, false≢true}
-use mathlib.Core.List.{List, [], _∷_}
+use mathlib.Core.List.{List}
 use borrow.Author.Tests.{not-true, ltb-true, lt-ltb, leb-true, le-leb, eqb-true, eq-eqb}
 use lib.Dec.{ltb, leb, eqb}
 use lib.ListN.{length, length-map}
@@ -17,10 +17,10 @@ use Rattle.order.specs.declared.Key.{Key}
 use Rattle.order.specs.declared.Order.{Order}
 use Rattle.day.specs.History.{History, isNew, isExecution, isBreak, isCancel, isReplace, isReprice, isMaker}
 use Rattle.day.specs.History.{executedOf, brokenOf, openOf, makers, orderOf, ordersOf, known, making}
-use Rattle.day.specs.Machine.{refusalOf, Found, nobody, found, find, isFound, differs, notOpen, notExecuted}
-use Rattle.day.specs.Refusals.{subject, OfOrder, Alike, DayOver, KnownKey, UnknownKey, OtherSeries, NotOpen, NotExecuted, Full}
-use Rattle.day.specs.Refusals.{rule, Reads, rules}
-use Rattle.day.proofs.Chain.{Judged, skipped, Says, Check, check, rulesOf, firstOf, answerBy, chain-judged, chain-after}
+use Rattle.day.specs.Machine.{Found, nobody, found, find, differs, notOpen, notExecuted, checks, refusalOf}
+use Rattle.day.specs.Refusals.{subject, OfOrder, DayOver, KnownKey, UnknownKey, OtherSeries, NotOpen, NotExecuted, Full}
+use Rattle.day.specs.Refusals.{Reads, rules}
+use Rattle.day.proofs.Chain.{Judged, skipped, Says, testOf, answerBy, chain-judged, first-number}
 use Rattle.day.proofs.Legal.{Legal}
 use Rattle.day.proofs.Lookup.{made-key, dayOf, find-order, is-known}
 
@@ -64,99 +64,88 @@ of-order true is o test n s = (λ e. absurd (false≢true e), λ h. absurd (fals
 of-order false true o test n s = (λ e. (refl, refl, s refl .0 e), λ h. s refl .1 (h .2))
 of-order false false o test n s = (λ e. absurd (false≢true (sym n ∙ e)), λ h. absurd (false≢true (h .1)))
 
--- ---- the tests of a line
+-- ---- each test says what the refusal with its number says
 
-module _ (h : History) (l : Legal h) (r : Record) where
+never : Says false ⊥
+never = (λ e. absurd (false≢true e), λ h. absurd h)
+
+module _ (limit : ℕ) (h : History) (l : Legal h) where
+  -- the test numbered n on the table of the history, and P of the history
+  abbrev Law : ℕ → (Said → Type 0) → Type 0
+  Law n P = (x : Said) → Says (testOf (dayOf h) x n (checks limit)) (P x)
+
   -- a test of the order that the line speaks of, as the lookup finds it
-  of-theirs : {P : Type 0} (test : Found → Bool) → test nobody ≡ false
+  of-theirs : (r : Record) {P : Type 0} (test : Found → Bool) → test nobody ≡ false
       → (known (subject r) h ≡ true → Says (test (found (orderOf h (making (subject r) h r)))) P)
       → Says (not (isNew (r .event)) && test (find (subject r) (ordersOf h))) (OfOrder h r P)
-  of-theirs test n s =
+  of-theirs r test n s =
       rw (find-order (subject r) r h l) (of-order (isNew (r .event)) (known (subject r) h) (orderOf h (making (subject r) h r)) test n s)
 
-  known-key : Says (isMaker (r .event) && isFound (find (keyOf r) (ordersOf h))) (KnownKey h (line r))
-  known-key = rw (is-known (keyOf r) r h l) (and-says (isMaker (r .event)) (known (keyOf r) h) Iff·rfl Iff·rfl)
+  day-over : Law 6 (DayOver h)
+  day-over x = Iff·rfl
 
-  unknown-key : Says (not (isNew (r .event)) && not (isFound (find (subject r) (ordersOf h)))) (UnknownKey h (line r))
-  unknown-key =
+  known-key : Law 7 (KnownKey h)
+  known-key endOfDay = never
+  known-key (line r) = rw (is-known (keyOf r) r h l) (and-says (isMaker (r .event)) (known (keyOf r) h) Iff·rfl Iff·rfl)
+
+  unknown-key : Law 8 (UnknownKey h)
+  unknown-key endOfDay = never
+  unknown-key (line r) =
       rw (is-known (subject r) r h l)
       (and-says (not (isNew (r .event))) (not (known (subject r) h)) (not-says (isNew (r .event))) (not-says (known (subject r) h)))
 
-  other-series : Says (not (isNew (r .event)) && differs r (find (subject r) (ordersOf h))) (OtherSeries h (line r))
-  other-series =
+  other-series : Law 9 (OtherSeries h)
+  other-series endOfDay = never
+  other-series (line r) =
       let m = making (subject r) h r in
-      of-theirs (differs r) refl
+      of-theirs r (differs r) refl
       (λ k. not-so (and-says (eqb (m .side) (r .side)) (sameSeries (seriesOf m) (seriesOf r)) (eqb-says (m .side) (r .side)) (series-same (seriesOf m) (seriesOf r))))
 
-  not-open : Says (not (isNew (r .event)) && notOpen r (find (subject r) (ordersOf h))) (NotOpen h (line r))
-  not-open =
+  not-open : Law 10 (NotOpen h)
+  not-open endOfDay = never
+  not-open (line r) =
       let e = r .event in
       let o = openOf (subject r) h in
       let n = r .contracts in
       let few = and-says (isExecution e || isCancel e) (ltb o n) Iff·rfl (ltb-says o n) in
       let none = and-says (isReplace e || isReprice e) (eqb o 0) Iff·rfl (eqb-says o 0) in
-      of-theirs (notOpen r) refl
+      of-theirs r (notOpen r) refl
       (λ k. rw (ap (λ (a : Key). openOf a h) (made-key (subject r) r h k))
       (or-says ((isExecution e || isCancel e) && ltb o n) ((isReplace e || isReprice e) && eqb o 0) few none))
 
-  not-executed : Says (not (isNew (r .event)) && notExecuted r (find (subject r) (ordersOf h))) (NotExecuted h (line r))
-  not-executed =
+  not-executed : Law 11 (NotExecuted h)
+  not-executed endOfDay = never
+  not-executed (line r) =
       let whole : Key → ℕ = λ a. executedOf a h - brokenOf a h in
-      of-theirs (notExecuted r) refl
+      of-theirs r (notExecuted r) refl
       (λ k. rw (ap whole (made-key (subject r) r h k))
       (and-says (isBreak (r .event)) (ltb (whole (subject r)) (r .contracts)) Iff·rfl (ltb-says (whole (subject r)) (r .contracts))))
 
-  full : (limit : ℕ) → Says (isMaker (r .event) && leb limit (length (ordersOf h))) (Full limit h (line r))
-  full limit =
+  full : Law 12 (Full limit h)
+  full endOfDay = never
+  full (line r) =
       rw (length-map (makers h) (orderOf h))
       (and-says (isMaker (r .event)) (leb limit (length (makers h))) Iff·rfl (leb-says limit (length (makers h))))
 
--- ---- all of them, for a piece that reads as x
+  -- ---- so booking refuses what a piece says by the first that applies, and never by 3
 
-never : Says false ⊥
-never = (λ e. absurd (false≢true e), λ h. absurd h)
+  module _ (p : List ℕ) (x : Said) (e : read p ≡ value x) where
+    unrefused : (n f : ℕ) → read p ≡ refused n f → ⊥
+    unrefused n f q = let z : _≡_ {A = ℕ} 0 1 = cc in omega arith
 
-module _ (limit : ℕ) (h : History) (p : List ℕ) (x : Said) (e : read p ≡ value x) where
-  reads : {b : Bool} (P : Said → Type 0) → Says b (P x) → Says b (Reads p P)
-  reads P s = (λ t. (x, e, s .0 t), λ w. s .1 (subst P (cc (w .1)) (w .2)))
+    infixr 3 _and_
+    -- a law in front of others
+    _and_ : {n : ℕ} {b : Bool} {P : Said → Type 0} {A : Type 0} → Says b (P x) → A → ((n ≡ n) × Says b (Reads p P)) × A
+    _and_ {P = P} s others = ((refl, (λ t. (x, e, s .0 t), λ w. s .1 (subst P (cc (w .1)) (w .2)))), others)
 
-  abbrev checks : {a b c d e f g : Bool} → Says a (DayOver h x) → Says b (KnownKey h x) → Says c (UnknownKey h x)
-      → Says d (OtherSeries h x) → Says e (NotOpen h x) → Says f (NotExecuted h x) → Says g (Full limit h x) → List Check
-  checks s6 s7 s8 s9 s10 s11 s12 =
-      check 6 (reads (DayOver h) s6) (omega arith)
-      ∷ check 7 (reads (KnownKey h) s7) (omega arith)
-      ∷ check 8 (reads (UnknownKey h) s8) (omega arith)
-      ∷ check 9 (reads (OtherSeries h) s9) (omega arith)
-      ∷ check 10 (reads (NotOpen h) s10) (omega arith)
-      ∷ check 11 (reads (NotExecuted h) s11) (omega arith)
-      ∷ check 12 (reads (Full limit h) s12) (omega arith)
-      ∷ []
+    pub said-judged : Judged (rules limit h p) (answerBy (refusalOf limit (dayOf h) x))
+    said-judged =
+        let a = answerBy (refusalOf limit (dayOf h) x) in
+        skipped _ 1 _ a (unrefused 1 0)
+        (skipped _ 2 _ a (unrefused 2 0)
+        (skipped _ 3 _ a (λ q. unrefused 3 (q .0) (q .1))
+        (chain-judged (dayOf h) x (checks limit) _ refl
+        (day-over x and known-key x and unknown-key x and other-series x and not-open x and not-executed x and full x and tt))))
 
--- booking's own tests, in its order
-abbrev checksOf : (limit : ℕ) (h : History) → Legal h → (p : List ℕ) (x : Said) → read p ≡ value x → List Check
-checksOf limit h l p endOfDay e = checks limit h p endOfDay e Iff·rfl never never never never never never
-checksOf limit h l p (line r) e =
-    checks limit h p (line r) e Iff·rfl (known-key h l r) (unknown-key h l r) (other-series h l r) (not-open h l r) (not-executed h l r)
-    (full h l r limit)
-
-unrefused : (p : List ℕ) (x : Said) (n f : ℕ) → read p ≡ value x → read p ≡ refused n f → ⊥
-unrefused p x n f e q = let z : _≡_ {A = ℕ} 0 1 = cc in omega arith
-
--- 1 to 3 don't apply to a piece that reads
-past-reading : (p : List ℕ) (x : Said) → read p ≡ value x → (cs : List Check)
-    → Judged (rule 1 (read p ≡ refused 1 0) ∷ rule 2 (read p ≡ refused 2 0) ∷ rule 3 ((f : ℕ) × (read p ≡ refused 3 f)) ∷ rulesOf cs)
-    (answerBy (firstOf cs))
-past-reading p x e cs =
-    let a = answerBy (firstOf cs) in
-    skipped _ 1 _ a (unrefused p x 1 0 e)
-    (skipped _ 2 _ a (unrefused p x 2 0 e) (skipped (rulesOf cs) 3 _ a (λ q. unrefused p x 3 (q .0) e (q .1)) (chain-judged cs)))
-
--- so booking refuses what is said by the first that applies, and never by 3
-pub said-judged : (limit : ℕ) (h : History) → Legal h → (p : List ℕ) (x : Said) → read p ≡ value x
-    → Judged (rules limit h p) (answerBy (refusalOf limit (dayOf h) x))
-said-judged limit h l p endOfDay e = past-reading p endOfDay e (checksOf limit h l p endOfDay e)
-said-judged limit h l p (line r) e = past-reading p (line r) e (checksOf limit h l p (line r) e)
-
-pub said-after : (limit : ℕ) (h : History) → Legal h → (p : List ℕ) (x : Said) → read p ≡ value x → refusalOf limit (dayOf h) x ≡ 3 → ⊥
-said-after limit h l p endOfDay e = chain-after (checksOf limit h l p endOfDay e)
-said-after limit h l p (line r) e = chain-after (checksOf limit h l p (line r) e)
+    pub said-after : refusalOf limit (dayOf h) x ≡ 3 → ⊥
+    said-after e = false≢true (sym (ap (λ n. not (eqb n 3)) e) ∙ first-number (dayOf h) x (λ n. not (eqb n 3)) (checks limit) refl refl)

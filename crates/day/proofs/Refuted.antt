@@ -1,10 +1,8 @@
 -- 01, Promises and Errors a quick hand would make: each wrong booking and each wrong sheet breaks demand 3, by a witness.
-use Prim.Native.Nat.{ℕ, _≤_, _<_}
+use Prim.Native.Nat.{ℕ, _≤_}
 use native.Mathlib.Omega.{arith}
-use mathlib.Core.Path.{_≡_, refl, sym, ap, subst, _∙_}
-use mathlib.Core.Bool.{_||_, true, false≢true, true≢false}
+use mathlib.Core.Path.{_≡_, refl, sym, ap, _∙_}
 use mathlib.Core.List.{List, [], _∷_, map}
-use mathlib.Core.Logic.{⊎-elim}
 use borrow.Author.Tests.{lt-leb}
 use lib.ListN.{length}
 use Rattle.refusal.specs.Answer.{Answer, value, refused}
@@ -19,13 +17,14 @@ use Rattle.order.specs.declared.Figures.{Figures}
 use Rattle.day.specs.Case.{sample, host, token, fill, naming, replacing}
 use Rattle.day.specs.Damage.{openAt}
 use Rattle.day.specs.Demand3.{Demand3, tableAfter, answerTo, historyAfter}
-use Rattle.day.specs.History.{History, ordersOf, isOver, isExecution, isCancel, isReplace, isReprice, openOf, figuresOf}
+use Rattle.day.specs.History.{ordersOf, isOver, figuresOf}
 use Rattle.day.specs.Listing.{Row, Sheet, membersOf, Each, shown}
-use Rattle.day.specs.Machine.{bookEvent, bookRead, book}
+use Rattle.day.specs.Machine.{Lookup, ownKey, subjectKey, bookEvent, bookRead, book}
 use Rattle.day.specs.Tables.{Table, empty, Booked}
-use Rattle.day.specs.Refusals.{subject, rules, NoneOf, Reads, OfOrder, DayOver, KnownKey, UnknownKey, OtherSeries, NotOpen, NotExecuted, Full}
+use Rattle.day.specs.Refusals.{subject, rules, NoneOf}
 use Rattle.day.specs.Walk.{sheetOf}
-use Rattle.day.specs.Wrong.{RefusesAll, ChangesNothing, NodsAtRest, InventsOrders, InventsFamilies, ShowsNothing, ShowsNoOpen, exchanged, exchanging, bookReadWith, bookWith, Lookup, Effect, ownKey, subjectKey, Returns, breakingBy, byToken, ownOpen}
+use Rattle.day.specs.Wrong.{RefusesAll, ChangesNothing, NodsAtRest, InventsOrders, InventsFamilies, ShowsNothing, ShowsNoOpen, exchanged, exchanging, bookReadWith, bookWith, Effect, Returns, breakingBy, byToken, ownOpen}
+use Rattle.day.proofs.Chain.{none-of}
 use Rattle.day.proofs.Demand3.{demand3}
 use Rattle.day.proofs.Settled.{settled}
 
@@ -38,43 +37,9 @@ ours-is-one = λ i limit t p. same limit t (read p) i
     same limit t (value (line r)) = refl
     same limit t (refused n f) = refl
 
-infixr 3 _and_
-_and_ : {A B : Type 0} → A → B → A × B
-_and_ a b = (a, b)
-
--- no refusal from 6 to 12 but perhaps 9, and of 10 neither half
-abbrev Allowed : ℕ → History → Record → Type 0
-Allowed limit h r =
-    (DayOver h (line r) → ⊥) × (KnownKey h (line r) → ⊥) × (UnknownKey h (line r) → ⊥)
-    × (OfOrder h r (((isExecution (r .event) || isCancel (r .event)) ≡ true) × (openOf (subject r) h < r .contracts)) → ⊥)
-    × (OfOrder h r (((isReplace (r .event) || isReprice (r .event)) ≡ true) × (openOf (subject r) h ≡ 0)) → ⊥)
-    × (NotExecuted h (line r) → ⊥)
-    × (Full limit h (line r) → ⊥)
-
-unrefused : (limit : ℕ) (h : History) (r : Record) → read (lineOf r) ≡ value (line r) → (OtherSeries h (line r) → ⊥) → Allowed limit h r
-    → NoneOf (rules limit h (lineOf r))
-unrefused limit h r reads alike allowed =
-    (λ e. no-value (sym e ∙ reads))
-    and (λ e. no-value (sym e ∙ reads))
-    and (λ e. no-value (sym (e .1) ∙ reads))
-    and (λ w. allowed .0 (said w))
-    and (λ w. allowed .1 (said w))
-    and (λ w. allowed .2 (said w))
-    and (λ w. alike (said w))
-    and (λ w. not-open (said w))
-    and (λ w. allowed .5 (said w))
-    and (λ w. allowed .6 (said w))
-    and tt
-  where
-    said : {P : Said → Type 0} → Reads (lineOf r) P → P (line r)
-    said {P} w = let same : w .0 ≡ line r = cc in subst P same (w .2)
-
-    not-open : NotOpen h (line r) → ⊥
-    not-open w = ⊎-elim (λ e. allowed .3 (w .0, w .1, e)) (λ e. allowed .4 (w .0, w .1, e)) (w .2)
-
 -- after the lines rs, latest first, r reads and no refusal applies to it
 abbrev Fits : ℕ → List Record → Record → Type 0
-Fits limit rs r = (read (lineOf r) ≡ value (line r)) × (OtherSeries (map line rs) (line r) → ⊥) × Allowed limit (map line rs) r
+Fits limit rs r = (read (lineOf r) ≡ value (line r)) × NoneOf (rules limit (map line rs) (lineOf r))
 
 -- the table after them, as the demand has it
 abbrev tableOf : List Record → Table
@@ -94,8 +59,6 @@ break = naming (Broken fill) 1 30
 abbrev elsewhere : Event → Record
 elsewhere event = sample event (host 2) (token 1) (spaces 20) 30
 
-ruleset tests = (arith, false≢true, true≢false)
-
 -- ---- 01, Promises of reader, table and sheet: what meets the demand is none of these
 
 module _ {limit : ℕ} {book : Table → List ℕ → Booked} {sheet : Table → Sheet} (demand : Demand3 limit book sheet) where
@@ -114,9 +77,7 @@ module _ {limit : ℕ} {book : Table → List ℕ → Booked} {sheet : Table →
   none-applies rs r all e = rw all at (demand .answers (map lineOf rs) (lineOf r) .accepted .0 (rw (held rs all, answerTo) e))
 
   answered : (rs : List Record) (r : Record) → Taken rs → Fits limit rs r → book (tableOf rs) (lineOf r) .answer ≡ value tt
-  answered rs r all fits =
-      let none = unrefused limit (map line rs) r (fits .0) (fits .1) (fits .2) in
-      rw (held rs all, answerTo) at (demand .answers (map lineOf rs) (lineOf r) .accepted .1 (rw all none))
+  answered rs r all fits = rw (held rs all, answerTo) at (demand .answers (map lineOf rs) (lineOf r) .accepted .1 (rw all (fits .1)))
 
   next : (rs : List Record) (r : Record) → Taken rs → Fits limit rs r → Taken (r ∷ rs)
   next rs r all fits = rw (held rs all, answerTo, answered rs r all fits, fits .0, all)
@@ -125,41 +86,50 @@ module _ {limit : ℕ} {book : Table → List ℕ → Booked} {sheet : Table →
       → book (tableOf rs) (lineOf r) .table .orders ≡ ordersOf (map line (r ∷ rs))
   booked rs r all fits = ap (λ t. t .orders) (rw (held rs all) at (held (r ∷ rs) (next rs r all fits)))
 
+-- our booking takes the witnesses, so no refusal applies to them
+module _ (limit : ℕ) where
+  fits : (rs : List Record) (r : Record) → Taken (demand3 limit) rs → read (lineOf r) ≡ value (line r)
+      → book limit (tableOf rs) (lineOf r) .answer ≡ value tt
+      → Fits limit rs r
+  fits rs r all reads e = (reads, none-applies (demand3 limit) rs r all e)
+
   module _ (room : 1 ≤ limit) where
     order-fits : Fits limit [] order
     unfolding read lineOf
-    order-fits = (refl, λ w. w .2 (refl, refl), omega tests)
-
-    one : Taken (order ∷ [])
-    one = next [] order refl order-fits
+    order-fits = fits [] order refl refl (rw (lt-leb limit 0))
 
     trade-fits : Fits limit (order ∷ []) trade
     unfolding read lineOf
-    trade-fits = (refl, λ w. w .2 (refl, refl), omega tests)
+    trade-fits = fits (order ∷ []) trade (next (demand3 limit) [] order refl order-fits) refl refl
 
-    two : Taken (trade ∷ order ∷ [])
-    two = next (order ∷ []) trade one trade-fits
+module _ {limit : ℕ} {book : Table → List ℕ → Booked} {sheet : Table → Sheet} (demand : Demand3 limit book sheet) where
+  module _ (room : 1 ≤ limit) where
+    one : Taken demand (order ∷ [])
+    one = next demand [] order refl (order-fits limit room)
+
+    two : Taken demand (trade ∷ order ∷ [])
+    two = next demand (order ∷ []) trade one (trade-fits limit room)
 
     pub refuses-all : RefusesAll book → ⊥
-    refuses-all refuses = no-value (sym (refuses empty (lineOf order) .2) ∙ answered [] order refl order-fits)
+    refuses-all refuses = no-value (sym (refuses empty (lineOf order) .2) ∙ answered demand [] order refl (order-fits limit room))
 
     pub changes-nothing : ChangesNothing book → ⊥
-    changes-nothing same = omega (arith, ap length (sym (same empty (lineOf order)) ∙ booked [] order refl order-fits))
+    changes-nothing same = omega (arith, ap length (sym (same empty (lineOf order)) ∙ booked demand [] order refl (order-fits limit room)))
 
     pub nods-at-rest : NodsAtRest book → ⊥
     nods-at-rest same =
         let nod = same (tableOf (order ∷ [])) (lineOf trade) (omega arith) in
-        omega (arith, ap (λ os. openAt os 0) (sym nod ∙ booked (order ∷ []) trade one trade-fits))
+        omega (arith, ap (λ os. openAt os 0) (sym nod ∙ booked demand (order ∷ []) trade one (trade-fits limit room)))
 
     pub invents-orders : InventsOrders sheet → ⊥
     invents-orders same =
         let first = demand .sheet-so (lineOf order ∷ []) .orders in
-        omega (arith, same empty (tableOf (order ∷ [])), demand .sheet-so [] .orders, rw (held (order ∷ []) one, one) at first)
+        omega (arith, same empty (tableOf (order ∷ [])), demand .sheet-so [] .orders, rw (held demand (order ∷ []) one, one) at first)
 
     pub invents-families : InventsFamilies sheet → ⊥
     invents-families same =
         let first = demand .sheet-so (lineOf order ∷ []) .families in
-        omega (arith, same empty (tableOf (order ∷ [])), demand .sheet-so [] .families, rw (held (order ∷ []) one, one) at first)
+        omega (arith, same empty (tableOf (order ∷ [])), demand .sheet-so [] .families, rw (held demand (order ∷ []) one, one) at first)
 
     pub shows-nothing : ShowsNothing sheet → ⊥
     shows-nothing none =
@@ -197,9 +167,10 @@ module _ {limit : ℕ} {book : Table → List ℕ → Booked} {sheet : Table →
   unfolding firstOpen read lineOf
   exchanges-figures room other =
       let rs = naming Accepted 9 5 ∷ order ∷ [] in
-      let fits : Fits limit (order ∷ []) (naming Accepted 9 5) = (refl, λ w. w .2 (refl, refl), omega tests) in
-      let all = next demand (order ∷ []) (naming Accepted 9 5) (one demand (omega arith)) fits in
-      let ours = next (demand3 limit) (order ∷ []) (naming Accepted 9 5) (one (demand3 limit) (omega arith)) fits in
+      let few : 1 ≤ limit = omega arith in
+      let second = fits limit (order ∷ []) (naming Accepted 9 5) (one (demand3 limit) few) refl (rw (lt-leb limit 1)) in
+      let all = next demand (order ∷ []) (naming Accepted 9 5) (one demand few) second in
+      let ours = next (demand3 limit) (order ∷ []) (naming Accepted 9 5) (one (demand3 limit) few) second in
       let same = shows-ours rs all ours in
       let again = settled limit book book sheet (exchanging sheet) demand other .sheets (map lineOf rs) in
       omega (arith, ap (λ (s : Sheet). firstOpen (s .rows)) (sym same ∙ again), ap (λ (s : Sheet). firstOpen (exchanged (s .rows))) same)
@@ -213,14 +184,16 @@ module _ {limit : ℕ} (room : 2 ≤ limit) {sheet : Table → Sheet} where
       → ⊥
   unfolding read lineOf
   returns-broken broken returns demand =
-      let os = booked demand (trade ∷ order ∷ []) break (two demand (omega arith)) (refl, λ w. w .2 (refl, refl), omega tests) in
+      let third = fits limit (trade ∷ order ∷ []) break (two (demand3 limit) (omega arith)) refl refl in
+      let os = booked demand (trade ∷ order ∷ []) break (two demand (omega arith)) third in
       omega (arith, ap (λ os. openAt os 0) os, returns (figuresOf (keyOf order) (line trade ∷ line order ∷ [])) 30)
 
   -- "Looking up a U's elder by the line's own token": A T1 30; U T2 for T1, 60: not refused 8
   pub elder-by-own-token : (effect : Effect) → Demand3 limit (bookWith ownKey ownKey effect limit) sheet → ⊥
   unfolding read lineOf
   elder-by-own-token effect demand =
-      no-value (answered demand (order ∷ []) (replacing 2 1 60) (one demand (omega arith)) (refl, λ w. w .2 (refl, refl), omega tests))
+      let second = fits limit (order ∷ []) (replacing 2 1 60) (one (demand3 limit) (omega arith)) refl (rw (lt-leb limit 1)) in
+      no-value {n = 8} (answered demand (order ∷ []) (replacing 2 1 60) (one demand (omega arith)) second)
 
   -- A T1 30; A T1 30 of ABCD02: not refused 7
   pub own-key-by-token : (theirs : Lookup) (effect : Effect)
@@ -228,7 +201,8 @@ module _ {limit : ℕ} (room : 2 ≤ limit) {sheet : Table → Sheet} where
       → ⊥
   unfolding read lineOf
   own-key-by-token theirs effect demand =
-      no-value (answered demand (order ∷ []) (elsewhere Accepted) (one demand (omega arith)) (refl, λ w. w .2 (refl, refl), omega tests))
+      let second = fits limit (order ∷ []) (elsewhere Accepted) (one (demand3 limit) (omega arith)) refl (rw (lt-leb limit 1)) in
+      no-value {n = 7} (answered demand (order ∷ []) (elsewhere Accepted) (one demand (omega arith)) second)
 
   -- A T1 30; E T1 30 of ABCD02: refused 8
   pub subject-by-token : (own : Lookup) (effect : Effect)
@@ -237,11 +211,11 @@ module _ {limit : ℕ} (room : 2 ≤ limit) {sheet : Table → Sheet} where
   unfolding read lineOf
   subject-by-token own effect demand =
       let none = none-applies demand (order ∷ []) (elsewhere (Executed fill)) (one demand (omega arith)) refl in
-      none .1 .1 .1 .1 .1 .0 (line (elsewhere (Executed fill)), refl, (refl, refl))
+      none-of 8 (rules limit (line order ∷ []) (lineOf (elsewhere (Executed fill)))) none (line (elsewhere (Executed fill)), refl, (refl, refl))
 
   -- A T1 30; E T1 30; A T1 30: refused 7
   pub frees-key : (theirs : Lookup) (effect : Effect) → Demand3 limit (bookWith ownOpen theirs effect limit) sheet → ⊥
   unfolding read lineOf
   frees-key theirs effect demand =
       let none = none-applies demand (trade ∷ order ∷ []) order (two demand (omega arith)) (rw (lt-leb limit 1)) in
-      none .1 .1 .1 .1 .0 (line order, refl, (refl, refl))
+      none-of 7 (rules limit (line trade ∷ line order ∷ []) (lineOf order)) none (line order, refl, (refl, refl))

@@ -15,7 +15,7 @@ use Rattle.day.specs.History.{History, isOver}
 use Rattle.day.specs.Machine.{refusalOf, accept, bookSaid, bookRead, book}
 use Rattle.day.specs.Tables.{Table, Booked}
 use Rattle.day.specs.Refusals.{rules, NoneOf, FirstOf}
-use Rattle.day.proofs.Chain.{Judged, answerBy}
+use Rattle.day.proofs.Chain.{Judged, none-of, answerBy}
 use Rattle.day.proofs.Checks.{said-judged}
 use Rattle.day.proofs.Legal.{Follows, Legal}
 use Rattle.day.proofs.Lookup.{dayOf}
@@ -56,11 +56,9 @@ module _ (limit : ℕ) (h : History) (l : Legal h) (p : List ℕ) where
 
   follows : (r : Record) → read p ≡ value (line r) → NoneOf (rules limit h p) → Follows h r
   follows r e n =
-      -- 7 and 8 come after 1, 2, 3 and 6
-      let seven = n .1 .1 .1 .1 in
       record {
-        fresh = λ q. not-eq-not {b = false} .0 (λ k. seven .0 (line r, e, (q, k)));
-        named = λ q. not-eq-not {b = true} .0 (λ k. seven .1 .0 (line r, e, (q, k)));
+        fresh = λ q. not-eq-not {b = false} .0 (λ k. none-of 7 (rules limit h p) n (line r, e, (q, k)));
+        named = λ q. not-eq-not {b = true} .0 (λ k. none-of 8 (rules limit h p) n (line r, e, (q, k)));
       }
 
   -- what is accepted joins the history

@@ -37,11 +37,14 @@ abbrev pub amend : Key → (Order → Order) → List Order → List Order
 amend k f [] = []
 amend k f (o ∷ os) = cond (sameKey (o .key) k) (f o ∷ os) (o ∷ amend k f os)
 
--- ---- the tests behind refusals 7 to 11
+-- ---- the tests behind refusals 8 to 11: of a line, and of the order that a lookup found for it
 
 abbrev pub isFound : Found → Bool
 isFound nobody = false
 isFound (found o) = true
+
+abbrev pub missing : Record → Found → Bool
+missing r o = not (isFound o)
 
 abbrev pub differs : Record → Found → Bool
 differs r nobody = false
@@ -57,18 +60,57 @@ abbrev pub notExecuted : Record → Found → Bool
 notExecuted r nobody = false
 notExecuted r (found o) = isBreak (r .event) && ltb (o .figures .executed - o .figures .broken) (r .contracts)
 
--- 01, Order of checks: 6 to 12; 0 where none is given
+-- ---- 01, Order of checks: 6 to 12
+
+-- a refusal's number, and its test of a table and of what a piece says
+pub record Check : Type 0 where
+  pub number : ℕ
+  pub test : Table → Said → Bool
+
+abbrev pub check : ℕ → (Table → Said → Bool) → Check
+check n f = record { number = n; test = f }
+
+-- a test of A and U alone
+abbrev pub ofMaker : (Table → Record → Bool) → Table → Said → Bool
+ofMaker test t endOfDay = false
+ofMaker test t (line r) = isMaker (r .event) && test t r
+
+abbrev pub Lookup : Type 0
+Lookup = Record → List Order → Found
+
+-- a test of E, C, X, R and U alone: of the order that a lookup finds for the line
+abbrev pub ofOrder : Lookup → (Record → Found → Bool) → Table → Said → Bool
+ofOrder theirs test t endOfDay = false
+ofOrder theirs test t (line r) = not (isNew (r .event)) && test r (theirs r (t .orders))
+
+-- all of them, in the paper's order, by how a line's own key and the order that it speaks of are looked up
+abbrev pub checksBy : (own theirs : Lookup) → ℕ → List Check
+checksBy own theirs limit =
+    check 6 (λ t x. t .over)
+    ∷ check 7 (ofMaker (λ t r. isFound (own r (t .orders))))
+    ∷ check 8 (ofOrder theirs missing)
+    ∷ check 9 (ofOrder theirs differs)
+    ∷ check 10 (ofOrder theirs notOpen)
+    ∷ check 11 (ofOrder theirs notExecuted)
+    ∷ check 12 (ofMaker (λ t r. leb limit (length (t .orders))))
+    ∷ []
+
+abbrev pub ownKey : Lookup
+ownKey r = find (keyOf r)
+
+abbrev pub subjectKey : Lookup
+subjectKey r = find (subject r)
+
+abbrev pub checks : ℕ → List Check
+checks = checksBy ownKey subjectKey
+
+-- the number of the first whose test refuses, or 0
+abbrev pub firstOf : List Check → Table → Said → ℕ
+firstOf [] t x = 0
+firstOf (c ∷ cs) t x = cond (c .test t x) (c .number) (firstOf cs t x)
+
 abbrev pub refusalOf : ℕ → Table → Said → ℕ
-refusalOf limit t endOfDay = cond (t .over) 6 0
-refusalOf limit t (line r) =
-    let theirs = find (subject r) (t .orders) in
-    cond (t .over) 6
-    (cond (isMaker (r .event) && isFound (find (keyOf r) (t .orders))) 7
-    (cond (not (isNew (r .event)) && not (isFound theirs)) 8
-    (cond (not (isNew (r .event)) && differs r theirs) 9
-    (cond (not (isNew (r .event)) && notOpen r theirs) 10
-    (cond (not (isNew (r .event)) && notExecuted r theirs) 11
-    (cond (isMaker (r .event) && leb limit (length (t .orders))) 12 0))))))
+refusalOf limit t x = firstOf (checks limit) t x
 
 -- ---- what an accepted line does
 

@@ -3,7 +3,7 @@ use Prim.Native.Nat.{ℕ, _+_, _≤_}
 use mathlib.Core.Path.{_≡_}
 use mathlib.Core.Bool.{Bool, true, cond, not, _&&_}
 use mathlib.Core.List.{List, [], _∷_}
-use lib.Dec.{leb, eqb}
+use lib.Dec.{eqb}
 use lib.ListN.{length}
 use Rattle.refusal.specs.Answer.{Answer, value, refused}
 use Rattle.layout.specs.Line.{Said, endOfDay, line, same, read}
@@ -13,10 +13,9 @@ use Rattle.order.specs.Names.{keyOf, sameKey}
 use Rattle.order.specs.declared.Figures.{Figures}
 use Rattle.order.specs.declared.Key.{Key}
 use Rattle.order.specs.declared.Order.{Order}
-use Rattle.day.specs.History.{isNew, isBreak, isMaker}
+use Rattle.day.specs.History.{isBreak}
 use Rattle.day.specs.Listing.{Row, Sheet, Each}
-use Rattle.day.specs.Machine.{Found, nobody, found, find, amend, isFound, differs, notOpen, notExecuted, withFigures, bookEvent}
-use Rattle.day.specs.Refusals.{subject}
+use Rattle.day.specs.Machine.{Found, nobody, found, amend, Lookup, checksBy, firstOf, withFigures, bookEvent}
 use Rattle.day.specs.Tables.{Table, Booked}
 
 -- ---- 01, Promises of reader, table and sheet
@@ -64,23 +63,12 @@ exchanging sheet t = record { orders = sheet t .orders; families = sheet t .fami
 
 -- ---- 01, Errors a quick hand would make: our machine, with its two lookups and what an accepted line does left open
 
-abbrev pub Lookup : Type 0
-Lookup = Record → List Order → Found
-
 abbrev pub Effect : Type 0
 Effect = Event → Record → List Order → List Order
 
 module _ (own theirs : Lookup) (effect : Effect) (limit : ℕ) where
   abbrev pub refusalWith : Table → Said → ℕ
-  refusalWith t endOfDay = cond (t .over) 6 0
-  refusalWith t (line r) =
-      cond (t .over) 6
-      (cond (isMaker (r .event) && isFound (own r (t .orders))) 7
-      (cond (not (isNew (r .event)) && not (isFound (theirs r (t .orders)))) 8
-      (cond (not (isNew (r .event)) && differs r (theirs r (t .orders))) 9
-      (cond (not (isNew (r .event)) && notOpen r (theirs r (t .orders))) 10
-      (cond (not (isNew (r .event)) && notExecuted r (theirs r (t .orders))) 11
-      (cond (isMaker (r .event) && leb limit (length (t .orders))) 12 0))))))
+  refusalWith t x = firstOf (checksBy own theirs limit) t x
 
   abbrev pub acceptWith : Said → Table → Table
   acceptWith endOfDay t = record { orders = t .orders; over = true }
@@ -94,13 +82,6 @@ module _ (own theirs : Lookup) (effect : Effect) (limit : ℕ) where
 
   abbrev pub bookWith : Table → List ℕ → Booked
   bookWith t p = bookReadWith t (read p)
-
--- ours: the line's own key, and that of the order it speaks of
-abbrev pub ownKey : Lookup
-ownKey r = find (keyOf r)
-
-abbrev pub subjectKey : Lookup
-subjectKey r = find (subject r)
 
 -- "Returning broken contracts to open.", whatever else becomes of the figures
 abbrev pub Returns : (Figures → ℕ → Figures) → Type 0

@@ -2,33 +2,35 @@
 use Prim.Native.Nat.{ℕ, zero, suc, _/_, _%_}
 use native.Mathlib.Omega.{arith}
 use mathlib.Core.Path.{_≡_, refl, sym, ap, _∙_}
-use mathlib.Core.Bool.{Bool, true, false, cond, not, _&&_, false≢true}
+use mathlib.Core.Bool.{Bool, true, false, cond, not, _&&_, _||_, false≢true}
 use mathlib.Core.List.{List}
 use mathlib.Core.Logic.{inl, inr, ⊎-elim}
+use borrow.Author.Tests.{not-true, eqb-true}
 use lib.Dec.{ltb, leb, eqb}
 use lib.ListN.{length, replicate}
 use Rattle.field.specs.Kept.{member}
 use Rattle.field.proofs.Fill.{between, is-between}
 use Rattle.refusal.specs.Answer.{Answer, value, refused, refusedBy}
-use Rattle.refusal.specs.Numbers.{numberOf}
+use Rattle.refusal.specs.Numbers.{numberOf, fieldOf}
+use Rattle.refusal.proofs.OneNumber.{byNumber}
 use Rattle.refusal.specs.declared.Refusal.{Refusal}
-use Rattle.refusal.specs.declared.Refusal.the-variants.{NoLine, BadByte, Field, NoRoom, Damaged, DayOver, KnownKey, UnknownKey, OtherSeries, NotOpen, NotExecuted, Full}
+use Rattle.refusal.specs.declared.Refusal.the-variants.{NoLine, BadByte, Field, NoRoom, Damaged, UnknownKey}
 use Rattle.layout.specs.Clocks.{clock}
 use Rattle.layout.specs.Demand2.{First}
 use Rattle.layout.specs.Layout.{timestamp, denominators}
-use Rattle.layout.specs.Line.{Said, endOfDay, line, outAfter, unlawful}
+use Rattle.layout.specs.Line.{Said, outAfter, unlawful}
 use Rattle.layout.specs.Line.{read as readLine}
 use Rattle.layout.specs.Rule.{num, lawful}
 use Rattle.layout.specs.Strikes.{unit, lawfulStrike, strikeValue, formUnder, strikeForm}
 use Rattle.layout.specs.declared.Clock.{Clock}
 use Rattle.layout.specs.declared.Record.{Record}
 use Rattle.layout.specs.declared.Strike.{Strike}
+use Rattle.layout.proofs.Rules.{either}
+use Rattle.layout.proofs.Rules.{both as holds}
 use Rattle.layout.proofs.Answers.{ReadRefused, ReadSays, read-says, write-says}
-use Rattle.order.specs.Names.{keyOf}
-use Rattle.day.specs.History.{isNew, isMaker}
-use Rattle.day.specs.Machine.{find, place, isFound, differs, notOpen, notExecuted, refusalOf, bookRead}
+use Rattle.day.specs.Machine.{place, checks, refusalOf, bookRead}
 use Rattle.day.specs.Tables.{Table, Booked}
-use Rattle.day.specs.Refusals.{subject}
+use Rattle.day.proofs.Chain.{first-number}
 use Rattle.table.specs.Entries.{placeOr8, lookUpAnswer, copyAnswer, copiedFrom}
 use Rattle.slot.specs.Slots.{keyIn}
 use Rattle.table.specs.Tables.{tableLength, limitOf, countIn, tableIn, sound, makeAnswer, madeFrom}
@@ -146,22 +148,23 @@ sheet-told : (s before : List ℕ) → Told (sheetAnswer s before)
 unfolding sheetAnswer
 sheet-told s before = both Told (sound s) (both Told (ltb (length before) (length (textOf s))) (other NoRoom refl) (given _)) (other Damaged refl)
 
--- a refusal of the day, if any
-abbrev OfDay : ℕ → Type 0
-OfDay n = eqb n 0 ≡ false → Told {A = Unit {0}} (refused n 0)
+-- a refusal that comes without a field has this number
+abbrev isPlain : Refusal → ℕ → Bool
+isPlain x n = eqb (numberOf x) n && (eqb (fieldOf x) 0 && not (eqb (numberOf x) 3))
 
-day-told : (limit : ℕ) (t : Table) (x : Said) → OfDay (refusalOf limit t x)
-day-told limit t endOfDay = both OfDay (t .over) (λ e. other DayOver refl) none
-day-told limit t (line r) =
-    let older = not (isNew (r .event)) in
-    let theirs = find (subject r) (t .orders) in
-    both OfDay (t .over) (λ e. other DayOver refl)
-    (both OfDay (isMaker (r .event) && isFound (find (keyOf r) (t .orders))) (λ e. other KnownKey refl)
-    (both OfDay (older && not (isFound theirs)) (λ e. other UnknownKey refl)
-    (both OfDay (older && differs r theirs) (λ e. other OtherSeries refl)
-    (both OfDay (older && notOpen r theirs) (λ e. other NotOpen refl)
-    (both OfDay (older && notExecuted r theirs) (λ e. other NotExecuted refl)
-    (both OfDay (isMaker (r .event) && leb limit (length (t .orders))) (λ e. other Full refl) none))))))
+plain-told : (x : Refusal) (n : ℕ) → isPlain x n ≡ true → Told {A = Unit {0}} (refused n 0)
+plain-told x n e =
+    let (a, b) = holds (eqb (numberOf x) n) (eqb (fieldOf x) 0 && not (eqb (numberOf x) 3)) e in
+    let (c, d) = holds (eqb (fieldOf x) 0) (not (eqb (numberOf x) 3)) b in
+    let its : Told {A = Unit {0}} (refused (numberOf x) (fieldOf x)) = other x (not-true (eqb (numberOf x) 3) d) in
+    rw (eqb-true (numberOf x) n a, eqb-true (fieldOf x) 0 c) at its
+
+-- a refusal of the day, if any
+day-told : (limit : ℕ) (t : Table) (x : Said) → eqb (refusalOf limit t x) 0 ≡ false → Told {A = Unit {0}} (refused (refusalOf limit t x) 0)
+day-told limit t x e =
+    let n = refusalOf limit t x in
+    either (eqb n 0) (isPlain (byNumber n 0) n) (λ z. absurd (false≢true (sym e ∙ z))) (plain-told (byNumber n 0) n)
+    (first-number t x (λ n. eqb n 0 || isPlain (byNumber n 0) n) (checks limit) refl refl)
 
 book-told : (s p : List ℕ) → Told (bookAnswer s p)
 unfolding bookAnswer

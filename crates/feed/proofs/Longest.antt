@@ -5,16 +5,15 @@ use mathlib.Core.Path.{_≡_, refl, sym, subst}
 use mathlib.Core.Bool.{Bool, true, false, cond}
 use mathlib.Core.Logic.{_⊎_, inl, inr}
 use mathlib.Core.List.{List, [], _∷_, _++_}
-use borrow.Author.Needs.{needs}
-use borrow.Author.Tests.{eqb-true}
-use lib.Dec.{eqb}
+use borrow.Author.Tests.{leb-true, eqb-true}
+use lib.Dec.{leb, eqb}
 use lib.ListN.{length, length-append}
 use Rattle.refusal.specs.Answer.{Answer, value, refused}
-use Rattle.layout.specs.Line.{Said, endOfDay, line, read}
+use Rattle.layout.specs.Line.{Said, read}
 use Rattle.layout.proofs.Answers.{ReadSays, read-says}
-use Rattle.day.specs.Machine.{refusalOf, bookRead}
+use Rattle.day.specs.Machine.{checks, refusalOf, bookRead}
 use Rattle.day.specs.Tables.{Table}
-use Rattle.day.proofs.Chain.{answerBy}
+use Rattle.day.proofs.Chain.{answerBy, first-number}
 use Rattle.day.proofs.Verdict.{said-answer}
 use Rattle.table.specs.Tables.{limitOf, tableIn, sound}
 use Rattle.book.specs.Bytes.{bookAnswer}
@@ -38,14 +37,8 @@ read-few p (refused n f) h = go (h .number)
     go (inr (inl e)) = (omega arith, omega arith)
     go (inr (inr e)) = (omega arith, h .by3 e .2 .most)
 
--- a test in front of others, however many they are
-first-most : (b : Bool) (n m : ℕ) → n ≤ 99 → m ≤ 99 → cond b n m ≤ 99
-first-most true n m h k = h
-first-most false n m h k = k
-
 refusal-most : (limit : ℕ) (t : Table) (x : Said) → refusalOf limit t x ≤ 99
-refusal-most limit t endOfDay = search (needs, first-most) depth 40
-refusal-most limit t (line r) = search (needs, first-most) depth 40
+refusal-most limit t x = leb-true (refusalOf limit t x) 99 (first-number t x (λ n. leb n 99) (checks limit) refl refl)
 
 by-few : (n : ℕ) → n ≤ 99 → Few (answerBy n)
 by-few n h = go (eqb n 0)

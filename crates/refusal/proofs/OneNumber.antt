@@ -7,8 +7,9 @@ use Rattle.refusal.specs.Numbers.{numberOf, fieldOf}
 use Rattle.refusal.specs.declared.Refusal.{Refusal}
 use Rattle.refusal.specs.declared.Refusal.the-variants.{NoLine, BadByte, Field, NoRoom, Damaged, DayOver, KnownKey, UnknownKey, OtherSeries, NotOpen, NotExecuted, Full}
 
-refusalOf : ℕ → ℕ → Refusal
-refusalOf n f =
+-- the refusal with a number and a field
+abbrev pub byNumber : ℕ → ℕ → Refusal
+byNumber n f =
     cond (eqb n 1) NoLine
     (cond (eqb n 2) BadByte
     (cond (eqb n 3) (Field f)
@@ -19,8 +20,7 @@ refusalOf n f =
     (cond (eqb n 8) UnknownKey
     (cond (eqb n 9) OtherSeries (cond (eqb n 10) NotOpen (cond (eqb n 11) NotExecuted Full))))))))))
 
-same : (x : Refusal) → refusalOf (numberOf x) (fieldOf x) ≡ x
-unfolding refusalOf
+same : (x : Refusal) → byNumber (numberOf x) (fieldOf x) ≡ x
 same NoLine = refl
 same BadByte = refl
 same (Field f) = refl
@@ -35,4 +35,4 @@ same NotExecuted = refl
 same Full = refl
 
 pub one-refusal : (x y : Refusal) → numberOf x ≡ numberOf y → fieldOf x ≡ fieldOf y → x ≡ y
-one-refusal x y n f = sym (same x) ∙ ap₂ refusalOf n f ∙ same y
+one-refusal x y n f = sym (same x) ∙ ap₂ byNumber n f ∙ same y
