@@ -46,7 +46,7 @@ free-kept s u i f e h =
     rw (e, kept, length-sets s (slotAt i) b) h
 
 -- the elder's figures, then the order that names it
-pub one-replaced : (s u v : List ℕ) (i : ℕ) (f : Figures) (r : Record) (o : Order) → u ≡ refigured i f s → o ≡ newOrder r (i + 1) → v ≡ appended o u
+pub one-replaced : (s u v : List ℕ) (i : ℕ) (f : Figures) (r : Record) (o : Order) → u ≡ refigured i f s → o ≡ newOrder r (r .contracts) (i + 1) → v ≡ appended o u
     → v ≡ afterPlan (Replace i f) r s
 one-replaced s u v i f r o e k g = g ∙ ap₂ appended k e
 

@@ -67,7 +67,7 @@ module _ {s : List ℕ} (h : Holds s (tableIn s)) where
       → Holds (eventBytes e r s) (record { orders = bookEvent e r os; over = tableIn s .over })
   event-holds {limit} {r} most a Accepted q theirs fit =
       let room = leb-false limit (length os) (rw q at (a .room)) in
-      appended-holds s (newOrder r 0) h (omega arith) (last-fits os (newOrder r 0) fit)
+      appended-holds s (newOrder r (r .contracts) 0) h (omega arith) (last-fits os (newOrder r (r .contracts) 0) fit)
   event-holds most a (Executed t) q theirs fit = let (o, p) = theirs refl in found-holds _ (rw q at (p .finds)) fit
   event-holds most a Cancelled q theirs fit = let (o, p) = theirs refl in found-holds _ (rw q at (p .finds)) fit
   event-holds most a (Broken t) q theirs fit = let (o, p) = theirs refl in found-holds _ (rw q at (p .finds)) fit
@@ -75,7 +75,7 @@ module _ {s : List ℕ} (h : Holds s (tableIn s)) where
       let (o, p) = theirs refl in
       let k = elderKeyOf r in
       let f = withFigures passedOn in
-      let young = newOrder r (place k os) in
+      let young = newOrder r (r .contracts) (place k os) in
       let elders = found-holds f (rw q at (p .finds)) (others-fit (amend k f os) young fit) in
       let room = leb-false limit (length os) (rw q at (a .room)) in
       appended-holds (changed k f s) young elders (omega (arith, length-amend k f os)) (last-fits (amend k f os) young fit)

@@ -68,7 +68,7 @@ module _ (s : List ℕ) (r : Record) where
   plan-bytes (Executed t) i p = at-place (keyOf r) i (withFigures (λ f. executedBy f (r .contracts))) p
   plan-bytes Cancelled i p = at-place (keyOf r) i (withFigures (λ f. cancelledBy f (r .contracts))) p
   plan-bytes (Broken t) i p = at-place (keyOf r) i (withFigures (λ f. brokenBy f (r .contracts))) p
-  plan-bytes Replaced i p = ap₂ (λ n u. appended (newOrder r n) u) (sym p) (at-place (elderKeyOf r) i (withFigures passedOn) p)
+  plan-bytes Replaced i p = ap₂ (λ n u. appended (newOrder r (r .contracts) n) u) (sym p) (at-place (elderKeyOf r) i (withFigures passedOn) p)
   plan-bytes Repriced i p = at-place (keyOf r) i (withPrice (r .price)) p
 
   -- ---- the conditions, one after another
@@ -91,7 +91,7 @@ module _ (s : List ℕ) (r : Record) where
         pub new : leb (limitOf (length s)) (length orders) ≡ false → Plans s r New
         new f = grants New (rw (a, b, n, f)) refl (is-new (r .event) n) (free s f)
           where
-            is-new : (e : Event) → isNew e ≡ true → appended (newOrder r 0) s ≡ eventBytes e r s
+            is-new : (e : Event) → isNew e ≡ true → appended (newOrder r (r .contracts) 0) s ≡ eventBytes e r s
             is-new Accepted n = refl
             is-new (Executed t) n = absurd (false≢true n)
             is-new Cancelled n = absurd (false≢true n)

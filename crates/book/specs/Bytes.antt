@@ -34,11 +34,11 @@ abbrev pub appended : Order → List ℕ → List ℕ
 appended o s = sets (sets s (slotAt (countIn s)) (slotBytes o)) 0 (leBytes 4 (countIn s + 1))
 
 abbrev pub eventBytes : Event → Record → List ℕ → List ℕ
-eventBytes Accepted r s = appended (newOrder r 0) s
+eventBytes Accepted r s = appended (newOrder r (r .contracts) 0) s
 eventBytes (Executed t) r s = changed (keyOf r) (withFigures (λ f. executedBy f (r .contracts))) s
 eventBytes Cancelled r s = changed (keyOf r) (withFigures (λ f. cancelledBy f (r .contracts))) s
 eventBytes (Broken t) r s = changed (keyOf r) (withFigures (λ f. brokenBy f (r .contracts))) s
-eventBytes Replaced r s = appended (newOrder r (place (elderKeyOf r) (tableIn s .orders))) (changed (elderKeyOf r) (withFigures passedOn) s)
+eventBytes Replaced r s = appended (newOrder r (r .contracts) (place (elderKeyOf r) (tableIn s .orders))) (changed (elderKeyOf r) (withFigures passedOn) s)
 eventBytes Repriced r s = changed (keyOf r) (withPrice (r .price)) s
 
 abbrev pub acceptBytes : Said → List ℕ → List ℕ

@@ -42,10 +42,10 @@ refigured i f s = changedAt i (withFigures (λ (old : Figures). f)) s
 -- the bytes once a plan is carried out
 abbrev pub afterPlan : Plan → Record → List ℕ → List ℕ
 afterPlan (No x) r s = s
-afterPlan New r s = appended (newOrder r 0) s
+afterPlan New r s = appended (newOrder r (r .contracts) 0) s
 afterPlan (Change i f) r s = refigured i f s
 afterPlan (Price i p) r s = changedAt i (withPrice p) s
-afterPlan (Replace i f) r s = appended (newOrder r (i + 1)) (refigured i f s)
+afterPlan (Replace i f) r s = appended (newOrder r (r .contracts) (i + 1)) (refigured i f s)
 
 -- a slot is inside the table
 abbrev pub Inside : ℕ → List ℕ → Type 0

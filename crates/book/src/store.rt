@@ -60,7 +60,7 @@ fn book_line(t: &mut [u8], r: Record) -> Booking
     match planning::plan(t, r) {
         Plan::No(x) => Booking::Refused(x),
         Plan::New => {
-            append(t, new_order(r, 0));
+            append(t, new_order(r, r.contracts, 0));
             Booking::Booked
         }
         Plan::Change(i, f) => {
@@ -73,14 +73,15 @@ fn book_line(t: &mut [u8], r: Record) -> Booking
         }
         Plan::Replace(i, f) => {
             refigure(t, i, f);
-            append(t, new_order(r, i as u64 + 1));
+            append(t, new_order(r, r.contracts, i as u64 + 1));
             Booking::Booked
         }
     }
 }
 
-fn new_order(r: Record, elder: u64) -> Order
-    ensures { λ o. ⌜ o ≡ newOrder r elder ⌝ }
+// The order that a line makes, with the size that the line is granted.
+fn new_order(r: Record, size: u64, elder: u64) -> Order
+    ensures { λ o. ⌜ o ≡ newOrder r size elder ⌝ }
 {
     Order {
         key: order::key_of(r),
@@ -88,7 +89,7 @@ fn new_order(r: Record, elder: u64) -> Order
         series: order::series_of(r),
         price: r.price,
         elder,
-        figures: Figures::fresh(r.contracts),
+        figures: Figures::fresh(size),
     }
 }
 

@@ -63,7 +63,7 @@ no-root (suc e) h = refl
 -- an accepted line adds a root if it is an A
 booked-roots : (r : Record) (os : List Order) (e : Event) → (isReplace e ≡ true → 1 ≤ place (elderKeyOf r) os)
     → rootCount (eldersOf (bookEvent e r os)) ≡ addIf (isNew e) 1 (rootCount (eldersOf os))
-booked-roots r os Accepted n = added os (newOrder r 0)
+booked-roots r os Accepted n = added os (newOrder r (r .contracts) 0)
 booked-roots r os (Executed t) n = ap rootCount (amend-elders _ _ (λ o. refl) os)
 booked-roots r os Cancelled n = ap rootCount (amend-elders _ _ (λ o. refl) os)
 booked-roots r os (Broken t) n = ap rootCount (amend-elders _ _ (λ o. refl) os)
@@ -71,7 +71,7 @@ booked-roots r os Replaced n =
     let k = elderKeyOf r in
     let e = place k os in
     let same = amend-elders k (withFigures passedOn) (λ o. refl) os in
-    omega (arith, added (amend k (withFigures passedOn) os) (newOrder r e), ap rootCount same, no-root e (n refl))
+    omega (arith, added (amend k (withFigures passedOn) os) (newOrder r (r .contracts) e), ap rootCount same, no-root e (n refl))
 booked-roots r os Repriced n = ap rootCount (amend-elders _ _ (λ o. refl) os)
 
 legal-roots : (h : History) → Legal h → rootCount (eldersOf (ordersOf h)) ≡ countOf isNew h

@@ -75,12 +75,12 @@ one-key-behind ks k one new none i j h l s = go (at ks k none i h) (at ks k none
 
 -- A and U put their key behind, and the others change none
 keys-booked : (e : Event) (r : Record) (os : List Order) → keysOf (bookEvent e r os) ≡ cond (isMaker e) (keysOf os ++ (keyOf r ∷ [])) (keysOf os)
-keys-booked Accepted r os = map-append key os (newOrder r 0 ∷ [])
+keys-booked Accepted r os = map-append key os (newOrder r (r .contracts) 0 ∷ [])
 keys-booked (Executed t) r os = map-amend (keyOf r) (withFigures (λ f. executedBy f (r .contracts))) key (λ o. refl) os
 keys-booked Cancelled r os = map-amend (keyOf r) (withFigures (λ f. cancelledBy f (r .contracts))) key (λ o. refl) os
 keys-booked (Broken t) r os = map-amend (keyOf r) (withFigures (λ f. brokenBy f (r .contracts))) key (λ o. refl) os
 keys-booked Replaced r os =
-    map-append key (amend (elderKeyOf r) (withFigures passedOn) os) (newOrder r (place (elderKeyOf r) os) ∷ [])
+    map-append key (amend (elderKeyOf r) (withFigures passedOn) os) (newOrder r (r .contracts) (place (elderKeyOf r) os) ∷ [])
     ∙ ap (λ (ks : List Key). ks ++ (keyOf r ∷ [])) (map-amend (elderKeyOf r) (withFigures passedOn) key (λ o. refl) os)
 keys-booked Repriced r os = map-amend (keyOf r) (withPrice (r .price)) key (λ o. refl) os
 

@@ -1,24 +1,23 @@
 -- What a lawful line gives an order is lawful in the table.
-use Prim.Native.Nat.{ℕ}
+use Prim.Native.Nat.{ℕ, _≤_}
 use native.Mathlib.Omega.{arith}
 use mathlib.Core.Path.{_≡_}
 use mathlib.Core.Bool.{true}
 use Rattle.layout.specs.Demand2.{LawfulRecord}
 use Rattle.layout.specs.declared.Record.{Record}
 use Rattle.field.proofs.Fill.{between}
-use Rattle.day.specs.Damage.{soundOrder, soundFigures}
+use Rattle.day.specs.Damage.{soundOrder}
 use Rattle.day.specs.Machine.{newOrder}
 use Rattle.day.proofs.Figures.{sound-figures, fresh-sound}
 use Rattle.order.specs.Figure.{freshBy}
 
 module _ (r : Record) (l : LawfulRecord r) where
-  fresh-figures : soundFigures (freshBy (r .contracts)) ≡ true
-  fresh-figures =
-      let n = between 1 999999 (r .contracts) (l .fields 15 (omega arith) (omega arith)) in
-      sound-figures (freshBy (r .contracts)) (fresh-sound (r .contracts) (n .0) (n .1))
+  -- its contracts are a lawful size
+  pub contracts-sized : (1 ≤ r .contracts) × (r .contracts ≤ 999999)
+  contracts-sized = between 1 999999 (r .contracts) (l .fields 15 (omega arith) (omega arith))
 
-  pub new-sound : (elder : ℕ) → soundOrder (newOrder r elder) ≡ true
-  new-sound e =
+  pub new-sound : (size elder : ℕ) → (1 ≤ size) × (size ≤ 999999) → soundOrder (newOrder r size elder) ≡ true
+  new-sound size e n =
       rw (
         l .fields 10 (omega arith) (omega arith),
         l .fields 11 (omega arith) (omega arith),
@@ -30,5 +29,5 @@ module _ (r : Record) (l : LawfulRecord r) where
         l .fields 20 (omega arith) (omega arith),
         l .fields 21 (omega arith) (omega arith),
         l .fields 22 (omega arith) (omega arith),
-        fresh-figures,
+        sound-figures (freshBy size) (fresh-sound size (n .0) (n .1)),
       )

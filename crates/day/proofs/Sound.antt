@@ -25,7 +25,7 @@ use Rattle.day.specs.Tables.{Table}
 use Rattle.day.proofs.Admitted.{Admitted, admitted, Spoken, spoken}
 use Rattle.day.proofs.Booking.{book-keeps}
 use Rattle.day.proofs.Figures.{executed-sound, cancelled-sound, broken-sound, passed-sound}
-use Rattle.day.proofs.Lawful.{new-sound}
+use Rattle.day.proofs.Lawful.{contracts-sized, new-sound}
 use Rattle.day.proofs.Orders.{Finds, stands, length-amend, map-amend, open-unclaimed}
 use Rattle.day.proofs.Undamaged.{Undamaged, apart, whole, refigured, repriced, behind}
 
@@ -34,23 +34,23 @@ use Rattle.day.proofs.Undamaged.{Undamaged, apart, whole, refigured, re
 module _ {limit : ℕ} {os : List Order} {r : Record} (l : LawfulRecord r) (a : Admitted limit os r) (u : Undamaged limit os) where
   -- the elder has nothing open any more, and nobody else has it as elder, since something was open
   replaced-keeps : {k : Key} {o : Order} → Finds k os o → (o .figures .«open» ≡ 0 → ⊥) → length os < limit
-      → Undamaged limit (amend k (withFigures passedOn) os ++ (newOrder r (place k os) ∷ []))
+      → Undamaged limit (amend k (withFigures passedOn) os ++ (newOrder r (r .contracts) (place k os) ∷ []))
   replaced-keeps {k} {o} h some room =
       let f = withFigures passedOn in
       let (i, p) = stands f h in
       let same : eldersOf (amend k f os) ≡ eldersOf os = map-amend k f (λ (x : Order). x .elder) (λ x. refl) os in
       let n = length-amend k f os in
       let before : place k os - 1 ≡ i = omega (arith, p .numbered) in
-      behind (newOrder r (place k os)) (refigured h u passedOn (λ z. refl) (passed-sound (o .figures))) (omega arith)
+      behind (newOrder r (r .contracts) (place k os)) (refigured h u passedOn (λ z. refl) (passed-sound (o .figures))) (omega arith)
       (omega (arith, p .numbered, p .inside))
       (λ l. rw (same, p .numbered) (open-unclaimed os i (λ z. some (sym (p .before) ∙ z)) (eldersOf os) (u .shut)))
       (λ l. rw before (p .after))
-      (new-sound r l (place k os))
+      (new-sound r l (r .contracts) (place k os) (contracts-sized r l))
 
   event-keeps : (e : Event) → r .event ≡ e → (isNew e ≡ false → (o : Order) × Spoken os r o) → Undamaged limit (bookEvent e r os)
   event-keeps Accepted q theirs =
-      behind (newOrder r 0) u (leb-false limit (length os) (rw q at (a .room))) (omega arith) (λ p. absurd (omega arith)) (λ p. absurd (omega arith))
-      (new-sound r l 0)
+      behind (newOrder r (r .contracts) 0) u (leb-false limit (length os) (rw q at (a .room))) (omega arith) (λ p. absurd (omega arith)) (λ p. absurd (omega arith))
+      (new-sound r l (r .contracts) 0 (contracts-sized r l))
   event-keeps (Executed t) q theirs =
       let (o, s) = theirs refl in
       let n = ltb-false (o .figures .«open») (r .contracts) (rw (q, or-false) at (s .in-open)) in

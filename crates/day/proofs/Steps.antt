@@ -16,7 +16,7 @@ use Rattle.order.specs.declared.Figures.{Figures}
 use Rattle.order.specs.declared.Key.{Key}
 use Rattle.order.specs.declared.Order.{Order}
 use Rattle.day.specs.History.{History, isExecution, isBreak, isCancel, isReplace, isMaker, replaces, addIf, sumOf, left}
-use Rattle.day.specs.History.{makers, placeOf, elderOf, orderOf, ordersOf}
+use Rattle.day.specs.History.{grants, makers, placeOf, elderOf, orderOf, ordersOf}
 use Rattle.day.specs.Machine.{place, amend, withFigures, withPrice, newOrder, bookEvent}
 use Rattle.order.proofs.Sameness.{key-self, key-comm}
 use Rattle.day.proofs.Legal.{Follows, Legal, elder-known, apart, unreplaced, named-known, unknown-sum, unknown-passed, Made, made}
@@ -115,7 +115,7 @@ module _ (h : History) (r m : Record) (f : Follows h r) where
 
 -- A and U, of the order that it makes
 new-order : (h : History) (r : Record) → Legal h → Follows h r → isMaker (r .event) ≡ true
-    → newOrder r (elderOf r (makers h ++ (r ∷ []))) ≡ orderOf (line r ∷ h) r
+    → newOrder r (grants h r) (elderOf r (makers h ++ (r ∷ []))) ≡ orderOf (line r ∷ h) r
 new-order h r l f q =
     let k = keyOf r in
     let n = f .fresh q in
@@ -144,13 +144,13 @@ module _ (h : History) (r : Record) (l : Legal h) (f : Follows h r) where
   appended : (c : Record → Order) (elder : ℕ) → isMaker (r .event) ≡ true
       → ((m : Record) → c m ≡ cond (replaces (keyOf m) r) (withFigures passedOn (orderOf h m)) (orderOf h m))
       → elder ≡ elderOf r (makers h ++ (r ∷ []))
-      → map c (makers h) ++ (newOrder r elder ∷ []) ≡ ordersOf (line r ∷ h)
+      → map c (makers h) ++ (newOrder r (grants h r) elder ∷ []) ≡ ordersOf (line r ∷ h)
   appended c elder q e n =
       let more : makers (line r ∷ h) ≡ makers h ++ (r ∷ []) = rw q in
       let g = orderOf (line r ∷ h) in
       ap₂ (λ (os : List Order) (o : Order). os ++ (o ∷ []))
       (map-same c g (makers h) (λ m i. e m ∙ older-order h r m f l q (made h m l i)))
-      (ap (newOrder r) n ∙ new-order h r l f q)
+      (ap (newOrder r (grants h r)) n ∙ new-order h r l f q)
       ∙ sym (map-append g (makers h) (r ∷ []))
       ∙ ap (map g) (sym more)
 
@@ -165,7 +165,7 @@ module _ (h : History) (r : Record) (l : Legal h) (f : Follows h r) where
       go Replaced q =
           let k = elderKeyOf r in
           let elder = place k (ordersOf h) in
-          ap (λ (os : List Order). os ++ (newOrder r elder ∷ [])) (amend-orders k (withFigures passedOn) h l)
+          ap (λ (os : List Order). os ++ (newOrder r (grants h r) elder ∷ [])) (amend-orders k (withFigures passedOn) h l)
           ∙ appended _ elder (ap isMaker q) (λ m. rw (q, key-comm (keyOf m) k))
           (rw (ap isReplace q) (place-order k h ∙ sym (place-kept k r h l (elder-known h r f (ap isReplace q)))))
       go Repriced q = amended _ _ (ap isMaker q) (λ m. repriced-order h r m f q)

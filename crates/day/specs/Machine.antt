@@ -122,24 +122,25 @@ abbrev pub withPrice : ℕ → Order → Order
 withPrice p o =
     record { key = o .key; side = o .side; series = o .series; price = p; elder = o .elder; figures = o .figures }
 
-abbrev pub newOrder : Record → ℕ → Order
-newOrder r elder =
+-- the order that a line makes, with the size that the line is granted
+abbrev pub newOrder : Record → (size elder : ℕ) → Order
+newOrder r size elder =
     record {
       key = keyOf r;
       side = r .side;
       series = seriesOf r;
       price = r .price;
       elder = elder;
-      figures = freshBy (r .contracts);
+      figures = freshBy size;
     }
 
 -- 01, Orders and their figures
 abbrev pub bookEvent : Event → Record → List Order → List Order
-bookEvent Accepted r os = os ++ (newOrder r 0 ∷ [])
+bookEvent Accepted r os = os ++ (newOrder r (r .contracts) 0 ∷ [])
 bookEvent (Executed t) r os = amend (keyOf r) (withFigures (λ f. executedBy f (r .contracts))) os
 bookEvent Cancelled r os = amend (keyOf r) (withFigures (λ f. cancelledBy f (r .contracts))) os
 bookEvent (Broken t) r os = amend (keyOf r) (withFigures (λ f. brokenBy f (r .contracts))) os
-bookEvent Replaced r os = amend (elderKeyOf r) (withFigures passedOn) os ++ (newOrder r (place (elderKeyOf r) os) ∷ [])
+bookEvent Replaced r os = amend (elderKeyOf r) (withFigures passedOn) os ++ (newOrder r (r .contracts) (place (elderKeyOf r) os) ∷ [])
 bookEvent Repriced r os = amend (keyOf r) (withPrice (r .price)) os
 
 abbrev pub accept : Said → Table → Table
