@@ -16,7 +16,8 @@ use Rattle.layout.specs.Layout.{part}
 use Rattle.order.specs.declared.Key.{Key}
 use Rattle.order.specs.declared.Order.{Order}
 use Rattle.day.specs.Machine.{place, amend}
-use Rattle.day.specs.Tables.{Table}
+use Rattle.day.specs.Tables.{Table, withOrders, withOver}
+use Rattle.day.proofs.Tables.{table-eq}
 use Rattle.slot.specs.Slots.{slotBytes, termsBytes, figuresBytes, orderIn, Fits}
 use Rattle.slot.specs.Places.{slotAt, slot, ordersIn}
 use Rattle.table.specs.Tables.{countIn, tableIn, tailZero}
@@ -78,7 +79,7 @@ module _ (s : List ℕ) (i : ℕ) (o : Order) where
           let same = ap (λ b. part b 75 5) (stored-elsewhere s i k (slotBytes o) (length-slot f) (λ e. other (sym e))) in
           ap (all isZero) (sym (slot-tail now k) ∙ same ∙ slot-tail s k) ∙ h other
 
-  set-holds : {t : Table} → Holds s t → i < countIn s → Fits o → Holds now (record { orders = set (t .orders) i o; over = t .over })
+  set-holds : {t : Table} → Holds s t → i < countIn s → Fits o → Holds now (withOrders (set (t .orders) i o) t)
   set-holds {t} h l f =
       record {
         long = length-sets s (slotAt i) (slotBytes o) ∙ h .long;
@@ -87,8 +88,8 @@ module _ (s : List ℕ) (i : ℕ) (o : Order) where
         spare = rw same-spare (h .spare);
         tails = λ k m. stored-tail f (omega (arith, h .long, h .few)) k (λ d. h .tails k (rw same-count at m));
         says =
-            (λ j. record { orders = orders j; over = eqb (same-mark j) 1 })
-            ∙ ap (λ (t : Table). record { orders = set (t .orders) i o; over = t .over }) (h .says);
+            table-eq orders (ap (λ b. eqb b 1) same-mark)
+            ∙ ap (λ (t : Table). withOrders (set (t .orders) i o) t) (h .says);
       }
     where
       orders : ordersIn 0 (countIn now) now ≡ set (ordersIn 0 (countIn s) s) i o
@@ -97,7 +98,7 @@ module _ (s : List ℕ) (i : ℕ) (o : Order) where
 -- the earliest order with a key is changed
 pub changed-holds : {s : List ℕ} (k : Key) (f : Order → Order) (i : ℕ) → Holds s (tableIn s) → place k (tableIn s .orders) ≡ i + 1
     → AllFit (amend k f (tableIn s .orders))
-    → Holds (changed k f s) (record { orders = amend k f (tableIn s .orders); over = tableIn s .over })
+    → Holds (changed k f s) (withOrders (amend k f (tableIn s .orders)) (tableIn s))
 changed-holds {s} k f i h e fit =
     let os = tableIn s .orders in
     let none = orderIn (slot s i) in
@@ -123,7 +124,7 @@ module _ (s : List ℕ) (o : Order) where
   counted = leBytes 4 (countIn s + 1)
 
   pub appended-holds : {t : Table} → Holds s t → length (t .orders) < 512 → Fits o
-      → Holds (appended o s) (record { orders = t .orders ++ (o ∷ []); over = t .over })
+      → Holds (appended o s) (withOrders (t .orders ++ (o ∷ [])) t)
   appended-holds {t} h room f =
       record {
         long = length-sets stored 0 counted ∙ same-length ∙ h .long;
@@ -135,8 +136,8 @@ module _ (s : List ℕ) (o : Order) where
             tail-kept stored counted 0 (omega arith) k
             (stored-tail s (countIn s) o f inside k (λ d. h .tails k (omega (arith, d, count, m))));
         says =
-            (λ j. record { orders = orders j; over = eqb (mark j) 1 })
-            ∙ ap (λ (t : Table). record { orders = t .orders ++ (o ∷ []); over = t .over }) (h .says);
+            table-eq orders (ap (λ b. eqb b 1) mark)
+            ∙ ap (λ (t : Table). withOrders (t .orders ++ (o ∷ [])) t) (h .says);
       }
     where
       its-count : countIn s ≡ length (t .orders)
@@ -165,7 +166,7 @@ module _ (s : List ℕ) (o : Order) where
           ∙ orders-append s (countIn s) o f inside
 
 -- the day's end
-pub over-holds : {s : List ℕ} {t : Table} → Holds s t → Holds (sets s 4 (1 ∷ [])) (record { orders = t .orders; over = true })
+pub over-holds : {s : List ℕ} {t : Table} → Holds s t → Holds (sets s 4 (1 ∷ [])) (withOver t)
 over-holds {s} {t} h =
     record {
       long = length-sets s 4 (1 ∷ []) ∙ h .long;
@@ -173,7 +174,7 @@ over-holds {s} {t} h =
       mark = rw mark (omega arith);
       spare = rw (part-after s (1 ∷ []) 4 5 3 (omega arith)) (h .spare);
       tails = λ k m. tail-kept s (1 ∷ []) 4 (omega arith) k (h .tails k (rw count at m));
-      says = (λ j. record { orders = orders j; over = eqb (mark j) 1 }) ∙ ap (λ (t : Table). record { orders = t .orders; over = true }) (h .says);
+      says = table-eq orders (ap (λ b. eqb b 1) mark) ∙ ap withOver (h .says);
     }
   where
     count : countIn (sets s 4 (1 ∷ [])) ≡ countIn s

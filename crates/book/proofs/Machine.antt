@@ -21,7 +21,7 @@ use Rattle.order.specs.declared.Order.{Order}
 use Rattle.day.specs.Damage.{soundOrder, allSound, eldersOf, earlier, undamaged}
 use Rattle.day.specs.History.{isNew}
 use Rattle.day.specs.Machine.{place, amend, withFigures, newOrder, refusalOf, bookEvent, accept, bookRead}
-use Rattle.day.specs.Tables.{Table, Booked}
+use Rattle.day.specs.Tables.{Table, withOrders, Booked}
 use Rattle.day.specs.Machine.{book as bookDay}
 use Rattle.day.proofs.Admitted.{Admitted, admitted, Spoken, spoken}
 use Rattle.day.proofs.Orders.{Finds, stands, length-amend}
@@ -59,12 +59,12 @@ module _ {s : List ℕ} (h : Holds s (tableIn s)) where
   os = tableIn s .orders
 
   found-holds : {k : Key} {o : Order} (f : Order → Order) → Finds k os o → AllFit (amend k f os)
-      → Holds (changed k f s) (record { orders = amend k f os; over = tableIn s .over })
+      → Holds (changed k f s) (withOrders (amend k f os) (tableIn s))
   found-holds {k} f e fit = let (i, p) = stands f e in changed-holds k f i h (omega (arith, p .numbered)) fit
 
   event-holds : {limit : ℕ} {r : Record} → limit ≤ 512 → Admitted limit os r → (e : Event) → r .event ≡ e
       → (isNew e ≡ false → (o : Order) × Spoken os r o) → AllFit (bookEvent e r os)
-      → Holds (eventBytes e r s) (record { orders = bookEvent e r os; over = tableIn s .over })
+      → Holds (eventBytes e r s) (withOrders (bookEvent e r os) (tableIn s))
   event-holds {limit} {r} most a Accepted q theirs fit =
       let room = leb-false limit (length os) (rw q at (a .room)) in
       appended-holds s (newOrder r (r .contracts) 0) h (omega arith) (last-fits os (newOrder r (r .contracts) 0) fit)

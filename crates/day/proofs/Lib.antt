@@ -21,5 +21,6 @@ pub mod Settled
 pub mod Shown
 pub mod Sound
 pub mod Steps
+pub mod Tables
 pub mod Undamaged
 pub mod Verdict

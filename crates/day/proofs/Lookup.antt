@@ -12,7 +12,7 @@ use Rattle.order.specs.declared.Key.{Key}
 use Rattle.order.specs.declared.Order.{Order}
 use Rattle.day.specs.History.{History, isMaker, makes, makers, oneMore, placeOf, orderOf, ordersOf, known, making, isOver}
 use Rattle.day.specs.Machine.{Found, nobody, found, find, isFound, place, amend}
-use Rattle.day.specs.Tables.{Table}
+use Rattle.day.specs.Tables.{Table, empty, withOrders, withMark}
 use Rattle.order.proofs.Sameness.{key-eq}
 use Rattle.day.proofs.Legal.{Legal, fresh-unknown}
 
@@ -138,7 +138,7 @@ module _ (g : Record → Order) (keys : (m : Record) → g m .key ≡ keyOf m) w
 -- ---- the table that a history declares
 
 abbrev pub dayOf : History → Table
-dayOf h = record { orders = ordersOf h; over = isOver h }
+dayOf h = withMark (isOver h) (withOrders (ordersOf h) empty)
 
 pub place-order : (k : Key) (h : History) → place k (ordersOf h) ≡ placeOf k (makers h)
 place-order k h = place-map (orderOf h) (λ m. refl) k (makers h)

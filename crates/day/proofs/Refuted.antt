@@ -26,7 +26,9 @@ use Rattle.day.specs.Walk.{sheetOf}
 use Rattle.day.specs.Wrong.{RefusesAll, ChangesNothing, NodsAtRest, InventsOrders, InventsFamilies, ShowsNothing, ShowsNoOpen, exchanged, exchanging, bookReadWith, bookWith, Effect, Returns, breakingBy, byToken, ownOpen}
 use Rattle.day.proofs.Chain.{none-of}
 use Rattle.day.proofs.Demand3.{demand3}
+use Rattle.day.proofs.Lookup.{dayOf}
 use Rattle.day.proofs.Settled.{settled}
+use Rattle.day.proofs.Tables.{table-eq}
 
 -- with our own parts the machine of specs/Wrong.antt is our booking
 pub ours-is-one : bookWith ownKey subjectKey bookEvent ≡ book
@@ -43,7 +45,7 @@ Fits limit rs r = (read (lineOf r) ≡ value (line r)) × NoneOf (rules limit (m
 
 -- the table after them, as the demand has it
 abbrev tableOf : List Record → Table
-tableOf rs = record { orders = ordersOf (map line rs); over = isOver (map line rs) }
+tableOf rs = dayOf (map line rs)
 
 -- the witnesses: A T1 30; E T1 30; C T1 30
 abbrev order : Record
@@ -69,7 +71,7 @@ module _ {limit : ℕ} {book : Table → List ℕ → Booked} {sheet : Table →
   held : (rs : List Record) → Taken rs → tableAfter book (map lineOf rs) ≡ tableOf rs
   held rs all =
       let ps = map lineOf rs in
-      λ i. record { orders = (demand .orders ps ∙ ap ordersOf all) i; over = (demand .mark ps ∙ ap isOver all) i }
+      table-eq (demand .orders ps ∙ ap ordersOf all) (demand .mark ps ∙ ap isOver all)
 
   none-applies : (rs : List Record) (r : Record) → Taken rs
       → book (tableOf rs) (lineOf r) .answer ≡ value tt

@@ -12,6 +12,7 @@ use Rattle.day.specs.History.{History, ordersOf, isOver}
 use Rattle.day.specs.Listing.{Sheet}
 use Rattle.day.specs.Settled.{Settled}
 use Rattle.day.specs.Tables.{Table, Booked}
+use Rattle.day.proofs.Tables.{table-eq}
 
 -- one answer to a piece after the same accepted lines
 pub one-answer : (limit : ℕ) (h : History) (p : List ℕ) (a b : Answer (Unit {0})) → IsAnswer limit h p a → IsAnswer limit h p b → a ≡ b
@@ -47,7 +48,7 @@ module _ (limit : ℕ) (book book′ : Table → List ℕ → Booked) (sheet she
       let e = same-history ps in
       let orders = d .orders ps ∙ ap ordersOf e ∙ sym (d′ .orders ps) in
       let mark = d .mark ps ∙ ap isOver e ∙ sym (d′ .mark ps) in
-      λ i. record { orders = orders i; over = mark i }
+      table-eq orders mark
 
   same-sheet : (ps : List (List ℕ)) → sheet (tableAfter book ps) ≡ sheet′ (tableAfter book′ ps)
   same-sheet ps =

@@ -1,7 +1,7 @@
 -- Booking on the table that a legal history declares: the answer is by the first refusal that applies, and what is accepted may follow.
 use Prim.Native.Nat.{ℕ}
 use native.Mathlib.Omega.{arith}
-use mathlib.Core.Path.{_≡_, refl, sym, subst}
+use mathlib.Core.Path.{_≡_, refl, sym, ap, subst}
 use mathlib.Core.Logic.{_⊎_, inl, inr}
 use mathlib.Core.Bool.{Bool, true, false, cond, not-eq-not}
 use mathlib.Core.List.{List, _∷_}
@@ -10,10 +10,11 @@ use Rattle.refusal.specs.Answer.{Answer, value, refused}
 use Rattle.layout.proofs.Demand2.{demand2}
 use Rattle.layout.specs.Line.{Said, endOfDay, line, read}
 use Rattle.layout.specs.declared.Record.{Record}
+use Rattle.order.specs.declared.Order.{Order}
 use Rattle.day.specs.Demand3.{joined}
-use Rattle.day.specs.History.{History, isOver}
+use Rattle.day.specs.History.{History}
 use Rattle.day.specs.Machine.{refusalOf, accept, bookSaid, bookRead, book}
-use Rattle.day.specs.Tables.{Table, Booked}
+use Rattle.day.specs.Tables.{Table, withOrders, Booked}
 use Rattle.day.specs.Refusals.{rules, NoneOf, FirstOf}
 use Rattle.day.proofs.Chain.{Judged, none-of, answerBy}
 use Rattle.day.proofs.Checks.{said-judged}
@@ -69,7 +70,7 @@ module _ (limit : ℕ) (h : History) (l : Legal h) (p : List ℕ) where
       accepted endOfDay e n = (l, refl)
       accepted (line r) e n =
           let f = follows r e n in
-          ((f, l), λ i. record { orders = booked h r l f i; over = isOver h })
+          ((f, l), ap (λ (os : List Order). withOrders os (dayOf h)) (booked h r l f))
 
       said : (x : Said) → read p ≡ value x → (t : Bool) → eqb (refusalOf limit (dayOf h) x) 0 ≡ t
           → let b = bookIf t (refusalOf limit (dayOf h) x) (dayOf h) x in

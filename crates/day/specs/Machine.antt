@@ -16,7 +16,7 @@ use Rattle.order.specs.declared.Key.{Key}
 use Rattle.order.specs.declared.Order.{Order}
 use Rattle.day.specs.History.{isNew, isExecution, isCancel, isBreak, isReplace, isReprice, isMaker, oneMore}
 use Rattle.day.specs.Refusals.{subject}
-use Rattle.day.specs.Tables.{Table, Booked}
+use Rattle.day.specs.Tables.{Table, withOrders, withOver, Booked}
 
 pub data Found : Type 0 where
   nobody : Found
@@ -144,8 +144,8 @@ bookEvent Replaced r os = amend (elderKeyOf r) (withFigures passedOn) os ++ (new
 bookEvent Repriced r os = amend (keyOf r) (withPrice (r .price)) os
 
 abbrev pub accept : Said → Table → Table
-accept endOfDay t = record { orders = t .orders; over = true }
-accept (line r) t = record { orders = bookEvent (r .event) r (t .orders); over = t .over }
+accept endOfDay t = withOver t
+accept (line r) t = withOrders (bookEvent (r .event) r (t .orders)) t
 
 -- ---- booking a piece
 

@@ -1,7 +1,7 @@
 -- Wrong bookings and wrong sheets, as 01 tells them. proofs/Refuted.antt shows that each breaks demand 3.
 use Prim.Native.Nat.{ℕ, _+_, _≤_}
 use mathlib.Core.Path.{_≡_}
-use mathlib.Core.Bool.{Bool, true, cond, not, _&&_}
+use mathlib.Core.Bool.{Bool, cond, not, _&&_}
 use mathlib.Core.List.{List, [], _∷_}
 use lib.Dec.{eqb}
 use lib.ListN.{length}
@@ -16,7 +16,7 @@ use Rattle.order.specs.declared.Order.{Order}
 use Rattle.day.specs.History.{isBreak}
 use Rattle.day.specs.Listing.{Row, Sheet, Each}
 use Rattle.day.specs.Machine.{Found, nobody, found, amend, Lookup, checksBy, firstOf, withFigures, bookEvent}
-use Rattle.day.specs.Tables.{Table, Booked}
+use Rattle.day.specs.Tables.{Table, withOrders, withOver, Booked}
 
 -- ---- 01, Promises of reader, table and sheet
 
@@ -71,8 +71,8 @@ module _ (own theirs : Lookup) (effect : Effect) (limit : ℕ) where
   refusalWith t x = firstOf (checksBy own theirs limit) t x
 
   abbrev pub acceptWith : Said → Table → Table
-  acceptWith endOfDay t = record { orders = t .orders; over = true }
-  acceptWith (line r) t = record { orders = effect (r .event) r (t .orders); over = t .over }
+  acceptWith endOfDay t = withOver t
+  acceptWith (line r) t = withOrders (effect (r .event) r (t .orders)) t
 
   abbrev pub bookReadWith : Table → Answer Said → Booked
   bookReadWith t (value x) =

@@ -13,6 +13,7 @@ use Rattle.cell.specs.Cells.{le}
 use Rattle.cell.proofs.Laws.{part-inside, part-whole, getD-part}
 use Rattle.layout.specs.Layout.{part}
 use Rattle.day.specs.Tables.{empty}
+use Rattle.day.proofs.Tables.{table-eq}
 use Rattle.table.specs.Promises.{Makes}
 use Rattle.slot.specs.Places.{ordersIn}
 use Rattle.table.specs.Tables.{countIn, tableIn, sound}
@@ -40,7 +41,7 @@ made s after h k e =
 header-zero : (s : List ℕ) → length s ≡ 40968 → countIn s ≡ 0 → getD s 4 0 ≡ 0 → part s 5 3 ≡ replicate 3 0
     → (sound s ≡ true) × (tableIn s ≡ empty)
 unfolding sound
-header-zero s e c m z = (rw (e, c, m, z), λ i. record { orders = ordersIn 0 (c i) s; over = eqb (m i) 1 })
+header-zero s e c m z = (rw (e, c, m, z), table-eq (ap (λ n. ordersIn 0 n s) c) (ap (λ b. eqb b 1) m))
 
 pub empty-sound : (before : List ℕ) → length before ≡ 40968
     → (sound (sets before 0 (replicate 8 0)) ≡ true) × (tableIn (sets before 0 (replicate 8 0)) ≡ empty)

@@ -10,7 +10,7 @@ use Rattle.field.specs.Byte.{all}
 use Rattle.refusal.specs.Answer.{Answer, value, refused}
 use Rattle.layout.specs.Layout.{part}
 use Rattle.day.specs.Damage.{undamaged}
-use Rattle.day.specs.Tables.{Table}
+use Rattle.day.specs.Tables.{Table, empty, withOrders, withMark}
 use Rattle.slot.specs.Places.{slotAt, ordersIn}
 
 -- the bytes of a table with room for so many orders
@@ -26,7 +26,7 @@ countIn s = le (part s 0 4)
 
 -- the table that the bytes say
 abbrev pub tableIn : List ℕ → Table
-tableIn s = record { orders = ordersIn 0 (countIn s) s; over = eqb (getD s 4 0) 1 }
+tableIn s = withMark (eqb (getD s 4 0) 1) (withOrders (ordersIn 0 (countIn s) s) empty)
 
 -- the last five bytes of a slot are 0
 abbrev pub tailZero : List ℕ → ℕ → Bool
