@@ -71,12 +71,12 @@ abbrev pub Says : Bool → Type 0 → Type 0
 Says b P = (b ≡ true) ↔ P
 
 module _ (t : Table) (x : Said) where
-  -- check by check, the rule with its number applies where its test refuses
+  -- check by check, the rule applies where the test refuses
   abbrev pub Agree : List Check → List Rule → Type 0
   Agree [] [] = Unit {0}
   Agree [] (r ∷ rs) = ⊥
   Agree (c ∷ cs) [] = ⊥
-  Agree (c ∷ cs) (r ∷ rs) = ((c .number ≡ r .number) × Says (c .test t x) (r .applies)) × Agree cs rs
+  Agree (c ∷ cs) (r ∷ rs) = Says (c .test t x) (r .applies) × Agree cs rs
 
   -- the test with a number
   abbrev pub testOf : ℕ → List Check → Bool
@@ -85,6 +85,10 @@ module _ (t : Table) (x : Said) where
 
 abbrev pub numbersOf : List Check → List ℕ
 numbersOf cs = map (λ (c : Check). c .number) cs
+
+abbrev pub ruleNumbers : List Rule → List ℕ
+ruleNumbers [] = []
+ruleNumbers (r ∷ rs) = r .number ∷ ruleNumbers rs
 
 -- 0 is no refusal's number
 abbrev pub numbered : List Check → Bool
@@ -112,17 +116,19 @@ module _ (t : Table) (x : Said) where
       go true p q = p
       go false p q = q
 
-  pub chain-judged : (cs : List Check) (rs : List Rule) → numbered cs ≡ true → Agree t x cs rs → Judged rs (answerBy (firstOf cs t x))
-  chain-judged [] [] h a = tt
-  chain-judged [] (r ∷ rs) h a = absurd a
-  chain-judged (c ∷ cs) [] h a = absurd a
-  chain-judged (c ∷ cs) (r ∷ rs) h a =
+  pub chain-judged : (cs : List Check) (rs : List Rule) → numbered cs ≡ true → numbersOf cs ≡ ruleNumbers rs → Agree t x cs rs
+      → Judged rs (answerBy (firstOf cs t x))
+  chain-judged [] [] h e a = tt
+  chain-judged [] (r ∷ rs) h e a = absurd a
+  chain-judged (c ∷ cs) [] h e a = absurd a
+  chain-judged (c ∷ cs) (r ∷ rs) h e a =
       let (first, others) = both (not (eqb (c .number) 0)) (numbered cs) h in
-      go (c .test t x) (a .0 .1) (not-true (eqb (c .number) 0) first) (chain-judged cs rs others (a .1))
+      let rest : numbersOf cs ≡ ruleNumbers rs = cc in
+      go (c .test t x) (a .0) (not-true (eqb (c .number) 0) first) (chain-judged cs rs others rest (a .1))
     where
       go : (b : Bool) → Says b (r .applies) → eqb (c .number) 0 ≡ false → Judged rs (answerBy (firstOf cs t x))
           → Judged (r ∷ rs) (answerBy (cond b (c .number) (firstOf cs t x)))
-      go true s z j = rw z (inl (s .0 refl, a .0 .0))
+      go true s z j = let same : c .number ≡ r .number = cc in rw z (inl (s .0 refl, same))
       go false s z j = skipped rs (r .number) (r .applies) (answerBy (firstOf cs t x)) (λ k. false≢true (s .1 k)) j
 
   -- where none refuses, the test with whatever number does not

@@ -135,8 +135,8 @@ module _ (limit : ℕ) (h : History) (l : Legal h) where
 
     infixr 3 _and_
     -- a law in front of others
-    _and_ : {n : ℕ} {b : Bool} {P : Said → Type 0} {A : Type 0} → Says b (P x) → A → ((n ≡ n) × Says b (Reads p P)) × A
-    _and_ {P = P} s others = ((refl, (λ t. (x, e, s .0 t), λ w. s .1 (subst P (cc (w .1)) (w .2)))), others)
+    _and_ : {b : Bool} {P : Said → Type 0} {A : Type 0} → Says b (P x) → A → Says b (Reads p P) × A
+    _and_ {P = P} s others = ((λ t. (x, e, s .0 t), λ w. s .1 (subst P (cc (w .1)) (w .2))), others)
 
     pub said-judged : Judged (rules limit h p) (answerBy (refusalOf limit (dayOf h) x))
     said-judged =
@@ -144,7 +144,7 @@ module _ (limit : ℕ) (h : History) (l : Legal h) where
         skipped _ 1 _ a (unrefused 1 0)
         (skipped _ 2 _ a (unrefused 2 0)
         (skipped _ 3 _ a (λ q. unrefused 3 (q .0) (q .1))
-        (chain-judged (dayOf h) x (checks limit) _ refl
+        (chain-judged (dayOf h) x (checks limit) _ refl refl
         (day-over x and known-key x and unknown-key x and other-series x and not-open x and not-executed x and full x and tt))))
 
     pub said-after : refusalOf limit (dayOf h) x ≡ 3 → ⊥
