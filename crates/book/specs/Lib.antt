@@ -1,4 +1,8 @@
+-- What booking a piece does to a lent table
 pub mod Bytes
-pub mod Plans
+-- The entry answers and leaves the table as the rules say
 pub mod Promises
+-- What a line is to change, and the table after it
+pub mod Plans
+-- Bookings that the promise must not allow
 pub mod Wrong

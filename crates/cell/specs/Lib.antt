@@ -1,1 +1,2 @@
+-- Numbers in a lent buffer, little end first
 pub mod Cells

@@ -1,26 +1,60 @@
-pub mod Admitted
-pub mod Booking
-pub mod Case
-pub mod Chain
-pub mod Checks
-pub mod Counts
-pub mod Demand3
-pub mod Descent
-pub mod Elders
-pub mod Figures
-pub mod Keys
-pub mod Lawful
+-- 1. Keys and lookup
+-- Histories in which each key is made once, before its use
 pub mod Legal
-pub mod Listings
+-- Finding, placing and changing orders by key
 pub mod Lookup
-pub mod Orders
-pub mod Reached
-pub mod Refuted
-pub mod Rows
-pub mod Settled
-pub mod Shown
-pub mod Sound
+-- 2. Checks
+-- A list of tests answers by the first that applies
+pub mod Chain
+-- Tests 6 to 12 say what the refusals say of history
+pub mod Checks
+-- 3. Steps
+-- A piece is accepted, or the table stays as it was
+pub mod Booking
+-- An accepted line changes orders as the longer history declares
 pub mod Steps
-pub mod Tables
-pub mod Undamaged
+-- The answer is by the first refusal that applies
 pub mod Verdict
+-- 4. The table reached
+-- Every table from empty on is what its history declares
+pub mod Reached
+-- N is the accepted A and U, F the accepted A
+pub mod Counts
+-- 5. Damage
+-- What the tests say after a change or one order more
+pub mod Orders
+-- What holds of a line that no refusal stops
+pub mod Admitted
+-- Every event leaves one order's numbers sound
+pub mod Figures
+-- What a line gives an order may stand in the table
+pub mod Lawful
+-- A change, or one order more, brings no damage
+pub mod Undamaged
+-- Booking brings no damage, so no table reached has any
+pub mod Sound
+-- No table reached has two orders with one key
+pub mod Keys
+-- What an order replaces is earlier, and replaced only once
+pub mod Elders
+-- Replacements form lines without a cycle
+pub mod Descent
+-- 6. The listing
+-- Ours is one as described, and the description fixes it
+pub mod Listings
+-- Every order stands in one row, and nothing else does
+pub mod Shown
+-- Each shows its order, and the sheet's description fixes it
+pub mod Rows
+-- 7. Demand 3
+-- Our booking and our sheet meet it, at every limit
+pub mod Demand3
+-- The eight pieces of 01 compute
+pub mod Case
+-- Two that keep the same are one
+pub mod Tables
+-- Answers, tables and sheets follow from demand 3 alone
+pub mod Settled
+-- 8. Refutations
+-- Each wrong booking or sheet breaks demand 3, by a witness
+pub mod Refuted

@@ -1,5 +1,10 @@
+-- Printable, space, digit, hex: of one, and of all
 pub mod Byte
+-- The kinds of field that stay as they stand
 pub mod Kept
+-- Fields with a value: how they are read and written
 pub mod Number
+-- What lies behind the spaces on the left
 pub mod Skipped
+-- Numbers, digits and prices are one to one, however long
 pub mod Widths

@@ -1,11 +1,22 @@
-pub mod Answers
-pub mod Demand2
-pub mod Examples
-pub mod First
-pub mod Forms
-pub mod Lines
-pub mod Refuted
-pub mod Rows
+-- One field reads back as written, at every width
 pub mod Rules
-pub mod Settled
+-- Fields one behind another, of any number
+pub mod Rows
+-- A record and its 24 fields are one to one
 pub mod Values
+-- Which field fails soonest, and what that answer says
+pub mod First
+-- A lawful piece says a lawful record, and conversely
+pub mod Lines
+-- What reading and writing say, case by case
+pub mod Answers
+-- No strike value can be written in two ways
+pub mod Forms
+-- The twelve of 01, whole lines and broken ones compute
+pub mod Examples
+-- Lawful lines and records are one to one, others refused
+pub mod Demand2
+-- Whatever has demand 2 answers as the written rules
+pub mod Settled
+-- Each wrong reader or writer breaks demand 2, by a witness
+pub mod Refuted

@@ -1,5 +1,10 @@
-pub mod Determined
-pub mod Forms
-pub mod Readings
+-- What a field's answer makes of the reading
 pub mod Steps
+-- The 24 fields that keep their rules say the record
 pub mod Whole
+-- A strike's unit, and how a code writes a value
+pub mod Forms
+-- Each way out of reading a piece keeps the promise
+pub mod Readings
+-- Two outcomes that a promise allows are equal
+pub mod Determined

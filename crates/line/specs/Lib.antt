@@ -1,2 +1,4 @@
-pub mod Groups
+-- Each entry's answer in the paper's numbers and values
 pub mod Promises
+-- What each lot of fields read leaves to the next
+pub mod Groups

@@ -1,1 +1,2 @@
+-- The tests of keys and of series say equality
 pub mod Sameness

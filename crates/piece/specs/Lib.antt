@@ -1,3 +1,6 @@
-pub mod Cuts
+-- How a text is cut, up to each LF
 pub mod Pieces
+-- What the pieces of a text are, described
+pub mod Cuts
+-- What `next` answers, in the paper's terms
 pub mod Promises

@@ -1,1 +1,2 @@
+-- No two refusals share their number and their field
 pub mod OneNumber

@@ -1,6 +1,12 @@
-pub mod Bounds
-pub mod Counting
+-- A number has the fewest digits and reads back
 pub mod Decimals
-pub mod Lent
-pub mod Puts
+-- What the loop over a number's digits keeps
+pub mod Counting
+-- A run without the spaces on its right
 pub mod Trimming
+-- Texts written one behind the other are one text
+pub mod Puts
+-- A row from the parts of an order's slot
+pub mod Lent
+-- A heading has at most 24 bytes, a row 78
+pub mod Bounds

@@ -1,1 +1,2 @@
+-- What is said of fields that go by type or denominator
 pub mod Answers

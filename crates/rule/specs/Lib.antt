@@ -1,1 +1,2 @@
+-- Answers about fields that some lines leave blank
 pub mod ByType

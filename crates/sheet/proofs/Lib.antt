@@ -1,12 +1,24 @@
-pub mod Answering
-pub mod Bound
-pub mod Determined
-pub mod Fitting
-pub mod Headings
+-- Two texts, one behind the other, are one text
 pub mod Joining
-pub mod Refuted
-pub mod Rowing
+-- What a pass over the elders of orders keeps
 pub mod Seeking
-pub mod Stepping
+-- From one order of the listing to the next
 pub mod Turning
+-- The row of one order, then the text behind it
+pub mod Stepping
+-- The space left decides as all of it does
+pub mod Fitting
+-- What the walk writes are the rows of the sheet
+pub mod Rowing
+-- Each way out of the sheet keeps the promise
+pub mod Answering
+-- 24 bytes and 78 a row are always enough
+pub mod Bound
+-- Two outcomes that the promise allows are equal
+pub mod Determined
+-- A text that opens with N and F says both
+pub mod Headings
+-- Two sound tables: empty, and with one order
 pub mod Witnesses
+-- Invented N and F, or one sheet for all, fail
+pub mod Refuted

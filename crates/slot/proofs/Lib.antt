@@ -1,6 +1,12 @@
-pub mod Laws
-pub mod Lookups
-pub mod Room
+-- Stores one right behind the other are one store
 pub mod Runs
+-- A sound order fits into a slot
+pub mod Room
+-- A slot tells the order that was stored in it
 pub mod Said
+-- What a store does to slots, header and orders
+pub mod Laws
+-- What is kept from slot to slot for a key
 pub mod Search
+-- Which order a place found by key stands for
+pub mod Lookups

@@ -1,1 +1,2 @@
+-- What the tests of a stored order say
 pub mod Fields

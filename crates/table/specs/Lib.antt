@@ -1,4 +1,8 @@
-pub mod Entries
-pub mod Passing
-pub mod Promises
+-- What lent bytes say, and when they have a meaning
 pub mod Tables
+-- What the damage check asks of each slot in turn
+pub mod Passing
+-- Where an order stands, and the order at a place
+pub mod Entries
+-- Each entry's answer, and each lent byte
+pub mod Promises
