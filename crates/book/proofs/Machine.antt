@@ -18,7 +18,8 @@ use Rattle.order.specs.Figure.{passedOn}
 use Rattle.order.specs.Names.{elderKeyOf}
 use Rattle.order.specs.declared.Key.{Key}
 use Rattle.order.specs.declared.Order.{Order}
-use Rattle.day.specs.Damage.{soundOrder, allSound, eldersOf, earlier, undamaged}
+use Rattle.day.specs.Damage.{allSound, eldersOf, earlier, undamaged}
+use Rattle.order.specs.Stored.{soundOrder}
 use Rattle.day.specs.History.{isNew}
 use Rattle.day.specs.Machine.{place, amend, withFigures, newOrder, refusalOf, bookEvent, accept, bookRead}
 use Rattle.day.specs.Tables.{Table, withOrders, Booked}

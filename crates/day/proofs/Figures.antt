@@ -9,7 +9,7 @@ use Rattle.field.proofs.Fill.{between, is-between}
 use Rattle.layout.proofs.Rules.{both}
 use Rattle.order.specs.Figure.{Sound, freshBy, executedBy, brokenBy, cancelledBy, passedOn}
 use Rattle.order.specs.declared.Figures.{Figures}
-use Rattle.day.specs.Damage.{soundFigures}
+use Rattle.order.specs.Stored.{soundFigures}
 
 pub figures-sound : (f : Figures) → soundFigures f ≡ true → Sound f
 figures-sound f e =

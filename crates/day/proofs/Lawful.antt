@@ -6,7 +6,7 @@ use mathlib.Core.Bool.{true}
 use Rattle.layout.specs.Demand2.{LawfulRecord}
 use Rattle.layout.specs.declared.Record.{Record}
 use Rattle.field.proofs.Fill.{between}
-use Rattle.day.specs.Damage.{soundOrder}
+use Rattle.order.specs.Stored.{soundOrder}
 use Rattle.day.specs.Machine.{newOrder}
 use Rattle.day.proofs.Figures.{sound-figures, fresh-sound}
 use Rattle.order.specs.Figure.{freshBy}

@@ -12,7 +12,8 @@ use Rattle.layout.proofs.Rules.{both, neither}
 use Rattle.order.specs.Names.{sameKey}
 use Rattle.order.specs.declared.Key.{Key}
 use Rattle.order.specs.declared.Order.{Order}
-use Rattle.day.specs.Damage.{soundOrder, allSound, eldersOf, earlier, unshared, openAt, closed}
+use Rattle.day.specs.Damage.{allSound, eldersOf, earlier, unshared, openAt, closed}
+use Rattle.order.specs.Stored.{soundOrder}
 use Rattle.day.specs.Machine.{found, find, isFound, place, amend}
 
 -- ---- the earliest order with a key

@@ -16,7 +16,8 @@ use Rattle.order.specs.Figure.{Sound}
 use Rattle.order.specs.declared.Figures.{Figures}
 use Rattle.order.specs.declared.Key.{Key}
 use Rattle.order.specs.declared.Order.{Order}
-use Rattle.day.specs.Damage.{lawfulKey, lawfulSeries, soundFigures, soundOrder, allSound, eldersOf, earlier, unshared, openAt, closed, undamaged}
+use Rattle.day.specs.Damage.{allSound, eldersOf, earlier, unshared, openAt, closed, undamaged}
+use Rattle.order.specs.Stored.{lawfulKey, lawfulSeries, soundFigures, soundOrder}
 use Rattle.day.specs.Machine.{amend, withFigures, withPrice}
 use Rattle.day.specs.Tables.{Table}
 use Rattle.day.proofs.Figures.{figures-sound, sound-figures}

@@ -2,3 +2,5 @@
 pub mod Names
 -- What each event does to one order's six numbers
 pub mod Figure
+-- What a stored order may be
+pub mod Stored

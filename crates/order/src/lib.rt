@@ -3,7 +3,11 @@ ghost use Prim.Native.Nat.{_≤_, _-_};
 ghost use mathlib.Core.Path.{_≡_};
 ghost use Rattle.order.specs.Figure.{Sound, freshBy, executedBy, brokenBy, cancelledBy, passedOn};
 ghost use Rattle.order.specs.Names.{keyOf, elderKeyOf, seriesOf};
+
+mod sound;
+
 use layout::Record;
+pub use sound::sound_order;
 
 // The six Source bytes and the twenty Token bytes.
 pub struct Key {

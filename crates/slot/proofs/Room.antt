@@ -13,7 +13,7 @@ use Rattle.layout.specs.Records.{one}
 use Rattle.layout.specs.Rule.{code, kept, text, run, lawful, fits}
 use Rattle.layout.proofs.Rules.{both, all-wider, writes-reads, writes-printable}
 use Rattle.order.specs.declared.Order.{Order}
-use Rattle.day.specs.Damage.{soundOrder}
+use Rattle.order.specs.Stored.{soundOrder}
 use Rattle.day.proofs.Figures.{figures-sound}
 use Rattle.slot.specs.Slots.{isByte, RunOf, Fits}
 

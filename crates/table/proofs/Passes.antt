@@ -11,7 +11,8 @@ use lib.ListN.{length, replicate}
 use Rattle.field.specs.Kept.{member}
 use Rattle.layout.proofs.Rules.{both, either}
 use Rattle.order.specs.declared.Order.{Order}
-use Rattle.day.specs.Damage.{soundOrder, eldersOf, openAt, undamaged}
+use Rattle.day.specs.Damage.{eldersOf, openAt, undamaged}
+use Rattle.order.specs.Stored.{soundOrder}
 use Rattle.day.proofs.Orders.{length-elders, sole-member}
 use Rattle.day.proofs.Undamaged.{Undamaged, apart, whole, behind}
 use Rattle.table.specs.Passing.{Marks, isMarked, roomIn, openIn, slotFits, elderFits}

@@ -11,7 +11,8 @@ use lib.ListN.{length}
 use Rattle.field.specs.Kept.{member}
 use Rattle.layout.proofs.Rules.{both}
 use Rattle.order.specs.declared.Order.{Order}
-use Rattle.day.specs.Damage.{soundOrder, allSound, earlier, unshared, openAt, closed}
+use Rattle.day.specs.Damage.{allSound, earlier, unshared, openAt, closed}
+use Rattle.order.specs.Stored.{soundOrder}
 use Rattle.day.proofs.Orders.{sole}
 use Rattle.table.specs.Passing.{openIn}
 use Rattle.slot.specs.Slots.{orderIn}

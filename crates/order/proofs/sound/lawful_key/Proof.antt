@@ -1,8 +1,8 @@
--- `stored::lawful_key` meets its contract.
+-- `order::lawful_key` meets its contract.
 use borrow.Author.Needs.{needs}
-use Rattle.stored.proofs.Fields.{text-lawful}
-use Rattle.stored.proofs.lawful_key.Statement.{statement}
-use Rattle.stored.proofs.lawful_key.Tie as tie
+use Rattle.order.proofs.Stored.{text-lawful}
+use Rattle.order.proofs.sound.lawful_key.Statement.{statement}
+use Rattle.order.proofs.sound.lawful_key.Tie as tie
 
 slice-aggregate-is-text : tie.Need-slice-aggregate-is-text
 slice-aggregate-is-text c = search needs

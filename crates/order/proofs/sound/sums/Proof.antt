@@ -1,8 +1,8 @@
--- `stored::sums` meets its contract: what is left of the size after each part decides as the sum does.
+-- `order::sums` meets its contract: what is left of the size after each part decides as the sum does.
 use native.Mathlib.Omega.{arith}
-use Rattle.stored.proofs.Fields.{parts-exceed, parts-taken}
-use Rattle.stored.proofs.sums.Statement.{statement}
-use Rattle.stored.proofs.sums.Tie as tie
+use Rattle.order.proofs.Stored.{parts-exceed, parts-taken}
+use Rattle.order.proofs.sound.sums.Statement.{statement}
+use Rattle.order.proofs.sound.sums.Tie as tie
 
 returns : tie.Need-returns
 returns c = parts-exceed (c .before .before .args .f) (omega (arith, c .if1 .taken))

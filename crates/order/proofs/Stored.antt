@@ -12,11 +12,11 @@ use Rattle.layout.specs.Layout.{sides, months, denominators}
 use Rattle.layout.specs.Rule.{kept, text, run, lawful}
 use Rattle.layout.specs.Strikes.{lawfulStrike}
 use Rattle.layout.proofs.Rules.{same-test}
 use Rattle.order.specs.declared.Figures.{Figures}
 use Rattle.order.specs.declared.Order.{Order}
 use Rattle.order.specs.declared.Series.{Series}
 use Rattle.rule.proofs.Answers.{price-most}
-use Rattle.day.specs.Damage.{lawfulKey, lawfulSeries, soundFigures, soundOrder}
+use Rattle.order.specs.Stored.{lawfulKey, lawfulSeries, soundFigures, soundOrder}
 
 pub text-lawful : (w : ℕ) (b : List ℕ) (r : Bool) → length b ≡ w → r ≡ isText b → r ≡ lawful (kept text) w (run b)
 text-lawful w b r h e = rw (eq-eqb (length b) w h) e

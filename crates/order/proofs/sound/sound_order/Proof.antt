@@ -1,8 +1,8 @@
--- `stored::sound_order` meets its contract.
+-- `order::sound_order` meets its contract.
 use borrow.Author.Needs.{needs}
-use Rattle.stored.proofs.Fields.{order-sound}
-use Rattle.stored.proofs.sound_order.Statement.{statement}
-use Rattle.stored.proofs.sound_order.Tie as tie
+use Rattle.order.proofs.Stored.{order-sound}
+use Rattle.order.proofs.sound.sound_order.Statement.{statement}
+use Rattle.order.proofs.sound.sound_order.Tie as tie
 
 lawful-key-requires : tie.Need-lawful-key-requires
 lawful-key-requires c κs = search needs

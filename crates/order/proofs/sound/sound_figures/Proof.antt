@@ -1,8 +1,8 @@
--- `stored::sound_figures` meets its contract.
+-- `order::sound_figures` meets its contract.
 use borrow.Author.Needs.{needs}
-use Rattle.stored.proofs.Fields.{figures-sound}
-use Rattle.stored.proofs.sound_figures.Statement.{statement}
-use Rattle.stored.proofs.sound_figures.Tie as tie
+use Rattle.order.proofs.Stored.{figures-sound}
+use Rattle.order.proofs.sound.sound_figures.Statement.{statement}
+use Rattle.order.proofs.sound.sound_figures.Tie as tie
 
 within-requires : tie.Need-within-requires
 within-requires c κs = search needs

@@ -3,13 +3,13 @@ ghost use Prim.Native.Nat.{_+_};
 ghost use mathlib.Core.Path.{_≡_};
 ghost use lib.Dec.{eqb};
 ghost use Rattle.field.specs.Kept.{isText};
-ghost use Rattle.day.specs.Damage.{lawfulKey, lawfulSeries, soundFigures, soundOrder};
+ghost use Rattle.order.specs.Stored.{lawfulKey, lawfulSeries, soundFigures, soundOrder};
+use crate::Figures;
+use crate::Key;
+use crate::Order;
+use crate::Series;
 use field::Bytes;
 use field::kept;
-use order::Figures;
-use order::Key;
-use order::Order;
-use order::Series;
 
 fn is_text(s: &[u8]) -> bool
     ensures { λ r. ⌜ r ≡ isText (now (s .entry)) ⌝ }

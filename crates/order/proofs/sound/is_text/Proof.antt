@@ -1,9 +1,9 @@
--- `stored::is_text` meets its contract.
+-- `order::is_text` meets its contract.
 use mathlib.Core.Path.{sym, _∙_}
 use borrow.Author.Needs.{needs}
 use Rattle.field.proofs.Returns.{lawful-true, unlawful-false}
-use Rattle.stored.proofs.is_text.Statement.{statement}
-use Rattle.stored.proofs.is_text.Tie as tie
+use Rattle.order.proofs.sound.is_text.Statement.{statement}
+use Rattle.order.proofs.sound.is_text.Tie as tie
 
 text-requires : tie.Need-text-requires
 text-requires c κs = search needs

@@ -1,8 +1,8 @@
--- `stored::lawful_series` meets its contract.
+-- `order::lawful_series` meets its contract.
 use borrow.Author.Needs.{needs}
-use Rattle.stored.proofs.Fields.{text-lawful, series-lawful}
-use Rattle.stored.proofs.lawful_series.Statement.{statement}
-use Rattle.stored.proofs.lawful_series.Tie as tie
+use Rattle.order.proofs.Stored.{text-lawful, series-lawful}
+use Rattle.order.proofs.sound.lawful_series.Statement.{statement}
+use Rattle.order.proofs.sound.lawful_series.Tie as tie
 
 slice-aggregate-is-text : tie.Need-slice-aggregate-is-text
 slice-aggregate-is-text c = search needs

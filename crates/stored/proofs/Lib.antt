@@ -1,2 +1,0 @@
--- What the tests of a stored order say
-pub mod Fields
