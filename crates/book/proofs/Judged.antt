@@ -5,17 +5,21 @@ use mathlib.Core.Path.{_≡_, ap}
 use mathlib.Core.Bool.{Bool, true, false, _&&_, or-false}
 use mathlib.Core.List.{List}
 use borrow.Author.Tests.{ltb-false}
+use Rattle.refusal.specs.declared.Refusal.the-variants.{OtherSeries, NotOpen, NotExecuted, Full}
 use Rattle.layout.specs.declared.Event.the-variants.{Executed, Cancelled, Broken}
 use Rattle.layout.specs.declared.Record.{Record}
 use Rattle.layout.specs.declared.Trade.{Trade}
 use Rattle.order.specs.declared.Key.{Key}
 use Rattle.order.specs.declared.Order.{Order}
-use Rattle.day.specs.Machine.{found, find, isFound, place, notOpen, notExecuted}
+use Rattle.day.specs.History.{isMaker}
+use Rattle.day.specs.Machine.{found, find, isFound, place, differs, notOpen, notExecuted}
 use Rattle.slot.proofs.Lookups.{at-found, nobody-found}
 use lib.ListN.{length}
 use lib.Seq.{take-all}
 use Rattle.layout.specs.Layout.{part}
 use Rattle.layout.specs.Line.{same}
+use Rattle.book.specs.Plans.{planBy, planAbout}
+use Rattle.book.specs.declared.Plan.the-variants.{No}
 
 -- a run compared from its start on
 pub same-whole : (a b : List ℕ) → length a ≡ length b → same (part a 0 (length b)) b ≡ same a b
@@ -45,7 +49,23 @@ module _ (o : Order) (r : Record) where
   pub breakable : (t : Trade) → r .event ≡ Broken t → notExecuted r (found o) ≡ false → r .contracts ≤ o .figures .executed - o .figures .broken
   breakable t e h = ltb-false (o .figures .executed - o .figures .broken) (r .contracts) (rw e at h)
 
--- ---- two conditions in one
+-- ---- the first condition that applies decides
 
-pub both-are : {w : Bool} (a b c d : Bool) → a ≡ c → b ≡ d → (a && b) ≡ w → (c && d) ≡ w
-both-are a b c d e f h = rw (e, f) at h
+module _ (i : ℕ) (o : Order) (r : Record) (full : Bool) where
+  pub by-series : differs r (found o) ≡ true → No OtherSeries ≡ planAbout i o r full
+  by-series d = rw d
+
+  module _ (d : differs r (found o) ≡ false) where
+    pub by-open : notOpen r (found o) ≡ true → No NotOpen ≡ planAbout i o r full
+    by-open p = rw (d, p)
+
+    module _ (p : notOpen r (found o) ≡ false) where
+      pub by-executed : notExecuted r (found o) ≡ true → No NotExecuted ≡ planAbout i o r full
+      by-executed x = rw (d, p, x)
+
+      module _ (x : notExecuted r (found o) ≡ false) (maker : Bool) (e : maker ≡ isMaker (r .event)) where
+        pub by-limit : (maker && full) ≡ true → No Full ≡ planAbout i o r full
+        by-limit y = rw (d, p, x, ← e, y)
+
+        pub by-event : (maker && full) ≡ false → planBy (r .event) i (o .figures) r ≡ planAbout i o r full
+        by-event y = rw (d, p, x, ← e, y)

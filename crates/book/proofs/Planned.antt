@@ -2,7 +2,7 @@
 use Prim.Native.Nat.{ℕ, _+_, _-_}
 use native.Mathlib.Omega.{arith}
 use mathlib.Core.Path.{_≡_, refl, sym, ap, ap₂}
-use mathlib.Core.Bool.{true, false, cond, _&&_, false≢true}
+use mathlib.Core.Bool.{Bool, true, false, cond, _&&_, false≢true}
 use mathlib.Core.List.{List}
 use lib.Dec.{eqb, leb}
 use lib.ListN.{length}
@@ -26,7 +26,7 @@ use Rattle.slot.specs.Slots.{orderIn}
 use Rattle.slot.specs.Places.{slot}
 use Rattle.table.specs.Tables.{limitOf, tableIn}
 use Rattle.book.specs.Bytes.{changedAt, changed, appended, eventBytes}
-use Rattle.book.specs.Plans.{Inside, Plans, RoomFor, planBy, answerOf, afterPlan}
+use Rattle.book.specs.Plans.{Inside, Plans, RoomFor, planBy, planAbout, answerOf, afterPlan}
 use Rattle.book.specs.declared.Plan.{Plan}
 use Rattle.book.specs.declared.Plan.the-variants.{No, New}
 use Rattle.book.proofs.There.{free}
@@ -103,24 +103,20 @@ module _ (s : List ℕ) (r : Record) where
         pub unknown-key : find (subject r) orders ≡ nobody → Plans s r (No UnknownKey)
         unknown-key f = refuses UnknownKey (rw (a, b, n, f)) refl refl
 
-        module _ (o : Order) (f : find (subject r) orders ≡ found o) where
-          pub other-series : differs r (found o) ≡ true → Plans s r (No OtherSeries)
-          other-series d = refuses OtherSeries (rw (a, b, n, f, d)) refl refl
+        -- the order that the line speaks of stands at place i
+        module _ (i : ℕ) (o : Order) (f : find (subject r) orders ≡ found o) (at : place (subject r) orders ≡ i + 1) (e : o ≡ orderIn (slot s i)) (h : Inside i s) where
+          pub about : (full : Bool) → full ≡ leb (limitOf (length s)) (length orders) → Plans s r (planAbout i o r full)
+          about full m = go (differs r (found o)) (notOpen r (found o)) (notExecuted r (found o)) (isMaker (r .event) && full) refl refl refl refl
+            where
+              chain : (d p x y : Bool) → Plan
+              chain d p x y = cond d (No OtherSeries) (cond p (No NotOpen) (cond x (No NotExecuted) (cond y (No Full) (planBy (r .event) i (o .figures) r))))
 
-          module _ (d : differs r (found o) ≡ false) where
-            pub not-open : notOpen r (found o) ≡ true → Plans s r (No NotOpen)
-            not-open p = refuses NotOpen (rw (a, b, n, f, d, p)) refl refl
-
-            module _ (p : notOpen r (found o) ≡ false) where
-              pub not-executed : notExecuted r (found o) ≡ true → Plans s r (No NotExecuted)
-              not-executed x = refuses NotExecuted (rw (a, b, n, f, d, p, x)) refl refl
-
-              module _ (x : notExecuted r (found o) ≡ false) where
-                pub full : (isMaker (r .event) && leb (limitOf (length s)) (length orders)) ≡ true → Plans s r (No Full)
-                full m = refuses Full (rw (a, b, m, n, f, d, p, x)) refl refl
-
-                pub planned : (isMaker (r .event) && leb (limitOf (length s)) (length orders)) ≡ false → (i : ℕ) → o ≡ orderIn (slot s i) → Inside i s
-                    → place (subject r) orders ≡ i + 1 → Plans s r (planBy (r .event) i (o .figures) r)
-                planned m i e h q =
-                    grants (planBy (r .event) i (o .figures) r) (rw (a, b, m, n, f, d, p, x)) (plan-answer (r .event) i (o .figures))
-                    (rw e (plan-bytes (r .event) i q)) (plan-room (r .event) i (o .figures) h m)
+              go : (d p x y : Bool) → differs r (found o) ≡ d → notOpen r (found o) ≡ p → notExecuted r (found o) ≡ x
+                  → (isMaker (r .event) && full) ≡ y → Plans s r (chain d p x y)
+              go true p x y q t u v = refuses OtherSeries (rw (a, b, n, f, q)) refl refl
+              go false true x y q t u v = refuses NotOpen (rw (a, b, n, f, q, t)) refl refl
+              go false false true y q t u v = refuses NotExecuted (rw (a, b, n, f, q, t, u)) refl refl
+              go false false false true q t u v = refuses Full (rw (a, b, ← m, v, n, f, q, t, u)) refl refl
+              go false false false false q t u v =
+                  grants (planBy (r .event) i (o .figures) r) (rw (a, b, ← m, v, n, f, q, t, u)) (plan-answer (r .event) i (o .figures))
+                  (rw e (plan-bytes (r .event) i at)) (plan-room (r .event) i (o .figures) h (rw (← m) v))

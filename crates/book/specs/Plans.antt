@@ -1,16 +1,20 @@
 -- What a plan for a line is, and what carrying it out does to the bytes of a table.
 use Prim.Native.Nat.{ℕ, _+_, _≤_}
 use mathlib.Core.Path.{_≡_}
+use mathlib.Core.Bool.{Bool, cond, _&&_}
 use mathlib.Core.List.{List}
 use lib.ListN.{length}
 use Rattle.refusal.specs.Answer.{Answer, value, refusedBy}
+use Rattle.refusal.specs.declared.Refusal.the-variants.{OtherSeries, NotOpen, NotExecuted, Full}
 use Rattle.layout.specs.Line.{Said, line}
 use Rattle.layout.specs.declared.Event.{Event}
 use Rattle.layout.specs.declared.Event.the-variants.{Accepted, Executed, Cancelled, Broken, Replaced, Repriced}
 use Rattle.layout.specs.declared.Record.{Record}
 use Rattle.order.specs.Figure.{executedBy, brokenBy, cancelledBy, passedOn}
 use Rattle.order.specs.declared.Figures.{Figures}
-use Rattle.day.specs.Machine.{bookSaid, withFigures, withPrice, newOrder}
+use Rattle.order.specs.declared.Order.{Order}
+use Rattle.day.specs.History.{isMaker}
+use Rattle.day.specs.Machine.{bookSaid, found, differs, notOpen, notExecuted, withFigures, withPrice, newOrder}
 use Rattle.slot.specs.Places.{slotAt}
 use Rattle.table.specs.Tables.{countIn, limitOf, tableIn}
 use Rattle.book.specs.Bytes.{changedAt, appended, saidBytes}
@@ -27,6 +31,14 @@ planBy Cancelled i f r = Change i (cancelledBy f (r .contracts))
 planBy (Broken t) i f r = Change i (brokenBy f (r .contracts))
 planBy Replaced i f r = Replace i (passedOn f)
 planBy Repriced i f r = Price i (r .price)
+
+-- the plan for a line about the order o at place i, by 9 to 12 in the order of 01; full says whether the table is
+abbrev pub planAbout : ℕ → Order → Record → Bool → Plan
+planAbout i o r full =
+    cond (differs r (found o)) (No OtherSeries)
+    (cond (notOpen r (found o)) (No NotOpen)
+    (cond (notExecuted r (found o)) (No NotExecuted)
+    (cond (isMaker (r .event) && full) (No Full) (planBy (r .event) i (o .figures) r))))
 
 abbrev pub answerOf : Plan → Answer (Unit {0})
 answerOf (No x) = refusedBy x

@@ -8,7 +8,7 @@ ghost use Rattle.order.specs.Names.{keyOf};
 ghost use Rattle.day.specs.History.{isNew, isMaker};
 ghost use Rattle.day.specs.Machine.{found, find, isFound, notOpen, notExecuted};
 ghost use Rattle.table.specs.Tables.{limitOf, tableIn, sound};
-ghost use Rattle.book.specs.Plans.{Plans, planBy};
+ghost use Rattle.book.specs.Plans.{Plans, planAbout, planBy};
 use crate::Plan;
 use crate::conditions;
 use layout::Event;
@@ -72,7 +72,14 @@ fn plan_older(t: &[u8], r: Record) -> Plan
     let Place::At(i) = slot::find_key(t, header::count(t) as usize, conditions::subject(r)) else {
         return Plan::No(Refusal::UnknownKey);
     };
-    let o = slot::order_at(t, i);
+    plan_about(i, slot::order_at(t, i), r, is_full(t))
+}
+
+// Of a line about the order o at place i: the first of refusals 9 to 12 that applies, or what is to be stored.
+fn plan_about(i: usize, o: Order, r: Record, full: bool) -> Plan
+    requires { ⌜ Sound (o .figures) ⌝ }
+    ensures { λ p. ⌜ p ≡ planAbout i o r full ⌝ }
+{
     if conditions::differs(o, r) {
         return Plan::No(Refusal::OtherSeries);
     }
@@ -83,7 +90,7 @@ fn plan_older(t: &[u8], r: Record) -> Plan
         return Plan::No(Refusal::NotExecuted);
     }
     let event = r.event;
-    if conditions::is_maker(event) & is_full(t) {
+    if conditions::is_maker(event) & full {
         return Plan::No(Refusal::Full);
     }
     plan_by(i, o, r)

@@ -1,28 +1,37 @@
--- `book::planning::plan_older` meets its contract.
+-- `book::planning::plan_older` meets its contract: no order has the key, or the plan is by the order at its place.
 use Prim.Native.Nat.{_+_}
-use mathlib.Core.Path.{_≡_, refl, sym, _∙_}
+use mathlib.Core.Path.{_≡_, refl, sym}
 use native.Mathlib.Omega.{arith}
 use borrow.Author.Needs.{needs}
 use denote.Ref.{now}
 use Rattle.slot.specs.Slots.{orderIn}
 use Rattle.slot.specs.Places.{slot}
+use Rattle.slot.proofs.Lookups.{nobody-found, place-is}
 use Rattle.table.specs.Tables.{tableIn}
+use Rattle.table.proofs.Whole.{whole}
 use Rattle.day.specs.Refusals.{subject}
 use Rattle.day.specs.Machine.{place}
 use Rattle.book.proofs.Booked.{plan-is}
-use Rattle.book.proofs.Judged.{both-are}
-use Rattle.slot.proofs.Lookups.{nobody-found, place-is}
 use Rattle.book.proofs.There.{There, there}
-use Rattle.table.proofs.Whole.{whole}
-use Rattle.book.proofs.Planned.{unknown-key, other-series, not-open, not-executed, full, planned}
+use Rattle.book.proofs.Planned.{unknown-key, about}
 use Rattle.book.proofs.planning.plan_older.Statement.{statement}
 use Rattle.book.proofs.planning.plan_older.Tie as tie
 
-found-at : (c : tie.After-known-told) → place (subject (c .before .before .before .before .before .before .before .args .r)) (tableIn (now (c .before .before .before .before .before .before .before .args .t)) .orders) ≡ c .before .i .given .0 .0 + 1
-found-at c = place-is (now (c .before .before .before .before .before .before .before .args .t)) _ _ _ _ _ _ (c .before .before .before .find-key .ensures) (c .before .i .given .1) (c .before .before .before .before .subject .ensures) (c .before .before .before .before .before .count .ensures)
+-- ---- where the order stands
 
-here : (c : tie.After-order-at) → There (now (c .before .before .before .before .before .before .before .before .args .t)) (subject (c .before .before .before .before .before .before .before .before .args .r)) (c .before .before .i .given .0 .0) (c .order-at .result)
-here c = there (now (c .before .before .before .before .before .before .before .before .args .t)) (subject (c .before .before .before .before .before .before .before .before .args .r)) _ _ (c .before .before .before .before .before .before .before .before .pre .0) (found-at (c .before)) (c .order-at .ensures)
+found-at : (c : tie.After-known-told) → let a = c .before .before .before .before .before .before .before .args in
+    place (subject (a .r)) (tableIn (now (a .t)) .orders) ≡ c .before .i .given .0 .0 + 1
+found-at c =
+    let f = c .before .before .before in
+    place-is (now (f .before .before .before .before .args .t)) _ _ _ _ _ _ (f .find-key .ensures) (c .before .i .given .1) (f .before .subject .ensures) (f .before .before .count .ensures)
+
+here : (c : tie.After-order-at) → let a = c .before .before .before .before .before .before .before .before .args in
+    There (now (a .t)) (subject (a .r)) (c .before .before .i .given .0 .0) (c .order-at .result)
+here c =
+    let s = c .before .before .before .before .before .before .before .before in
+    there (now (s .args .t)) (subject (s .args .r)) _ _ (s .pre .0) (found-at (c .before)) (c .order-at .ensures)
+
+-- ---- the needs
 
 count-requires : tie.Need-count-requires
 count-requires c κs = whole (now (c .before .args .t)) (search needs) .header
@@ -40,47 +49,33 @@ enum-told : tie.Need-enum-told
 enum-told c = search needs
 
 returns : tie.Need-returns
-returns c = let s = (now (c .before .before .before .before .before .before .args .t)) in
-    let k = subject (c .before .before .before .before .before .before .args .r) in
-    unknown-key s (c .before .before .before .before .before .before .args .r) (c .before .before .before .before .before .before .pre .1 .0) (c .before .before .before .before .before .before .pre .1 .1 .0) (c .before .before .before .before .before .before .pre .1 .1 .1) (nobody-found k (tableIn s .orders) (place-is s _ _ _ _ _ _ (c .before .before .find-key .ensures) (c .enum-told .given .1) (c .before .before .before .subject .ensures) (c .before .before .before .before .count .ensures)))
+returns c =
+    let f = c .before .before in
+    let s = f .before .before .before .before in
+    let t = now (s .args .t) in
+    unknown-key t (s .args .r) (s .pre .1 .0) (s .pre .1 .1 .0) (s .pre .1 .1 .1)
+    (nobody-found (subject (s .args .r)) (tableIn t .orders)
+    (place-is t _ _ _ _ _ _ (f .find-key .ensures) (c .enum-told .given .1) (f .before .subject .ensures) (f .before .before .count .ensures)))
 
 order-at-requires : tie.Need-order-at-requires
-order-at-requires c κs = let s = (now (c .before .before .before .before .before .before .before .args .t)) in
+order-at-requires c κs =
+    let s = c .before .before .before .before .before .before .before in
     let i = c .before .i .given .0 .0 in
-    there s (subject (c .before .before .before .before .before .before .before .args .r)) i (orderIn (slot s i)) (c .before .before .before .before .before .before .before .pre .0) (found-at c) refl .inside
-
-differs-requires : tie.Need-differs-requires
-differs-requires c κs = search needs
-
-returns-2 : tie.Need-returns-2
-returns-2 c = other-series (now (c .before .before .before .before .before .before .before .before .before .before .args .t)) (c .before .before .before .before .before .before .before .before .before .before .args .r) (c .before .before .before .before .before .before .before .before .before .before .pre .1 .0) (c .before .before .before .before .before .before .before .before .before .before .pre .1 .1 .0) (c .before .before .before .before .before .before .before .before .before .before .pre .1 .1 .1) _ (here (c .before .before) .is) (sym (c .before .differs .ensures) ∙ c .if1 .taken)
-
-not-open-requires : tie.Need-not-open-requires
-not-open-requires c κs = search needs
-
-returns-3 : tie.Need-returns-3
-returns-3 c = not-open (now (c .before .before .before .before .before .before .before .before .before .before .before .before .args .t)) (c .before .before .before .before .before .before .before .before .before .before .before .before .args .r) (c .before .before .before .before .before .before .before .before .before .before .before .before .pre .1 .0) (c .before .before .before .before .before .before .before .before .before .before .before .before .pre .1 .1 .0) (c .before .before .before .before .before .before .before .before .before .before .before .before .pre .1 .1 .1) _ (here (c .before .before .before .before) .is) (sym (c .before .before .before .differs .ensures) ∙ c .before .before .if1 .left) (sym (c .before .not-open .ensures) ∙ c .if2 .taken)
-
-not-executed-requires : tie.Need-not-executed-requires
-not-executed-requires c κs = here (c .before .before .before .before) .sums
-
-returns-4 : tie.Need-returns-4
-returns-4 c = not-executed (now (c .before .before .before .before .before .before .before .before .before .before .before .before .before .before .args .t)) (c .before .before .before .before .before .before .before .before .before .before .before .before .before .before .args .r) (c .before .before .before .before .before .before .before .before .before .before .before .before .before .before .pre .1 .0) (c .before .before .before .before .before .before .before .before .before .before .before .before .before .before .pre .1 .1 .0) (c .before .before .before .before .before .before .before .before .before .before .before .before .before .before .pre .1 .1 .1) _ (here (c .before .before .before .before .before .before) .is) (sym (c .before .before .before .before .before .differs .ensures) ∙ c .before .before .before .before .if1 .left) (sym (c .before .before .before .not-open .ensures) ∙ c .before .before .if2 .left) (sym (c .before .not-executed .ensures) ∙ c .if3 .taken)
-
-is-maker-requires : tie.Need-is-maker-requires
-is-maker-requires c κs = search needs
+    there (now (s .args .t)) (subject (s .args .r)) i (orderIn (slot (now (s .args .t)) i)) (s .pre .0) (found-at c) refl .inside
 
 is-full-requires : tie.Need-is-full-requires
 is-full-requires c κs = search needs
 
-returns-5 : tie.Need-returns-5
-returns-5 c = full (now (c .before .before .before .before .before .before .before .before .before .before .before .before .before .before .before .before .before .args .t)) (c .before .before .before .before .before .before .before .before .before .before .before .before .before .before .before .before .before .args .r) (c .before .before .before .before .before .before .before .before .before .before .before .before .before .before .before .before .before .pre .1 .0) (c .before .before .before .before .before .before .before .before .before .before .before .before .before .before .before .before .before .pre .1 .1 .0) (c .before .before .before .before .before .before .before .before .before .before .before .before .before .before .before .before .before .pre .1 .1 .1) _ (here (c .before .before .before .before .before .before .before .before .before) .is) (sym (c .before .before .before .before .before .before .before .before .differs .ensures) ∙ c .before .before .before .before .before .before .before .if1 .left) (sym (c .before .before .before .before .before .before .not-open .ensures) ∙ c .before .before .before .before .before .if2 .left) (sym (c .before .before .before .before .not-executed .ensures) ∙ c .before .before .before .if3 .left) (both-are _ _ _ _ (c .before .before .is-maker .ensures) (c .before .is-full .ensures) (c .if4 .taken))
+plan-about-requires : tie.Need-plan-about-requires
+plan-about-requires c κs = here (c .before) .sums
 
-plan-by-requires : tie.Need-plan-by-requires
-plan-by-requires c κs = (here (c .before .before .before .before .before .before .before .before .before) .sums, ((sym (c .before .before .before .before .before .before .not-open .ensures) ∙ c .before .before .before .before .before .if2 .left), (sym (c .before .before .before .before .not-executed .ensures) ∙ c .before .before .before .if3 .left)))
-
-returns-6 : tie.Need-returns-6
-returns-6 c = plan-is _ _ _ _ (planned (now (c .before .before .before .before .before .before .before .before .before .before .before .before .before .before .before .before .before .before .args .t)) (c .before .before .before .before .before .before .before .before .before .before .before .before .before .before .before .before .before .before .args .r) (c .before .before .before .before .before .before .before .before .before .before .before .before .before .before .before .before .before .before .pre .1 .0) (c .before .before .before .before .before .before .before .before .before .before .before .before .before .before .before .before .before .before .pre .1 .1 .0) (c .before .before .before .before .before .before .before .before .before .before .before .before .before .before .before .before .before .before .pre .1 .1 .1) _ (here (c .before .before .before .before .before .before .before .before .before .before) .is) (sym (c .before .before .before .before .before .before .before .before .before .differs .ensures) ∙ c .before .before .before .before .before .before .before .before .if1 .left) (sym (c .before .before .before .before .before .before .before .not-open .ensures) ∙ c .before .before .before .before .before .before .if2 .left) (sym (c .before .before .before .before .before .not-executed .ensures) ∙ c .before .before .before .before .if3 .left) (both-are _ _ _ _ (c .before .before .before .is-maker .ensures) (c .before .before .is-full .ensures) (c .before .if4 .left)) _ (c .before .before .before .before .before .before .before .before .before .before .order-at .ensures) (here (c .before .before .before .before .before .before .before .before .before .before) .inside) (found-at (c .before .before .before .before .before .before .before .before .before .before .before))) (sym (c .plan-by .ensures))
+returns-2 : tie.Need-returns-2
+returns-2 c =
+    let o = c .before .before in
+    let s = o .before .before .before .before .before .before .before .before in
+    plan-is _ _ _ _
+    (about (now (s .args .t)) (s .args .r) (s .pre .1 .0) (s .pre .1 .1 .0) (s .pre .1 .1 .1) _ _ (here o .is) (found-at (o .before)) (o .order-at .ensures) (here o .inside) _ (c .before .is-full .ensures))
+    (sym (c .plan-about .ensures))
 
 pub plan-older-spec : {M : Type 1} → statement M
 plan-older-spec =
@@ -93,14 +88,6 @@ plan-older-spec =
     enum-told
     returns
     order-at-requires
-    differs-requires
-    returns-2
-    not-open-requires
-    returns-3
-    not-executed-requires
-    returns-4
-    is-maker-requires
     is-full-requires
-    returns-5
-    plan-by-requires
-    returns-6)
+    plan-about-requires
+    returns-2)
