@@ -9,10 +9,10 @@ use borrow.Author.Tests.{eqb-true, eqb-false}
 use lib.Dec.{eqb}
 use lib.ListN.{length, getD, set, replicate, length-set, length-append}
 use lib.Seq.{sets, length-sets, drop-at, getD-set-same}
-use Rattle.cell.specs.Cells.{le, leBytes, isZero}
-use Rattle.cell.proofs.Laws.{le-written, getD-part, part-part, part-before, part-after, part-whole}
-use Rattle.field.specs.Byte.{all}
-use Rattle.layout.specs.Layout.{part}
+use Rattle.run.specs.Runs.{part, all, isZero}
+use Rattle.cell.specs.Cells.{le, leBytes}
+use Rattle.run.proofs.Parts.{getD-part, part-part, part-before, part-after, part-whole}
+use Rattle.cell.proofs.Laws.{le-written}
 use Rattle.order.specs.declared.Key.{Key}
 use Rattle.order.specs.declared.Order.{Order}
 use Rattle.day.specs.Machine.{place, amend}

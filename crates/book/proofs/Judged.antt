@@ -1,7 +1,6 @@
 -- What the conditions of a line say of the order that it speaks of.
 use Prim.Native.Nat.{ℕ, _+_, _-_, _≤_}
-use native.Mathlib.Nat.{le-of-eq}
-use mathlib.Core.Path.{_≡_, ap}
+use mathlib.Core.Path.{_≡_}
 use mathlib.Core.Bool.{Bool, true, false, _&&_, or-false}
 use mathlib.Core.List.{List}
 use borrow.Author.Tests.{ltb-false}
@@ -14,16 +13,8 @@ use Rattle.order.specs.declared.Order.{Order}
 use Rattle.day.specs.History.{isMaker}
 use Rattle.day.specs.Machine.{found, find, isFound, place, differs, notOpen, notExecuted}
 use Rattle.slot.proofs.Lookups.{at-found, nobody-found}
-use lib.ListN.{length}
-use lib.Seq.{take-all}
-use Rattle.layout.specs.Layout.{part}
-use Rattle.layout.specs.Line.{same}
 use Rattle.book.specs.Plans.{planBy, planAbout}
 use Rattle.book.specs.declared.Plan.the-variants.{No}
-
--- a run compared from its start on
-pub same-whole : (a b : List ℕ) → length a ≡ length b → same (part a 0 (length b)) b ≡ same a b
-same-whole a b e = ap (λ l. same l b) (take-all (length b) a (le-of-eq e))
 
 -- ---- whether a key is taken
 

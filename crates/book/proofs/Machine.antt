@@ -13,7 +13,6 @@ use Rattle.layout.specs.Line.{Said, endOfDay, line, read}
 use Rattle.layout.specs.declared.Event.{Event}
 use Rattle.layout.specs.declared.Event.the-variants.{Accepted, Executed, Cancelled, Broken, Replaced, Repriced}
 use Rattle.layout.specs.declared.Record.{Record}
-use Rattle.layout.proofs.Rules.{both}
 use Rattle.order.specs.Figure.{passedOn}
 use Rattle.order.specs.Names.{elderKeyOf}
 use Rattle.order.specs.declared.Key.{Key}
@@ -24,6 +23,7 @@ use Rattle.day.specs.History.{isNew}
 use Rattle.day.specs.Machine.{place, amend, withFigures, newOrder, refusalOf, bookEvent, accept, bookRead}
 use Rattle.day.specs.Tables.{Table, withOrders, Booked}
 use Rattle.day.specs.Machine.{book as bookDay}
+use Rattle.run.proofs.Tests.{both}
 use Rattle.day.proofs.Admitted.{Admitted, admitted, Spoken, spoken}
 use Rattle.day.proofs.Orders.{Finds, stands, length-amend}
 use Rattle.day.proofs.Sound.{book-undamaged}

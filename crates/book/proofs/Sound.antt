@@ -7,13 +7,11 @@ use mathlib.Core.List.{List}
 use borrow.Author.Tests.{ltb-true, leb-true, le-leb, eqb-true, eqb-false}
 use lib.Dec.{ltb, leb, eqb}
 use lib.ListN.{length, getD}
-use Rattle.cell.specs.Cells.{isZero}
-use Rattle.field.specs.Byte.{all}
-use Rattle.layout.specs.Layout.{part}
-use Rattle.layout.proofs.Rules.{both}
+use Rattle.run.specs.Runs.{part, all, isZero}
 use Rattle.day.specs.Damage.{undamaged}
 use Rattle.day.specs.Tables.{Table}
 use Rattle.table.specs.Tables.{countIn, limitOf, tableIn, tailZero, tailsZero, slotsSound, sound}
+use Rattle.run.proofs.Tests.{both}
 use Rattle.table.proofs.Limits.{limit-is, limit-most}
 use Rattle.book.proofs.Holding.{TailZero, Holds}
 

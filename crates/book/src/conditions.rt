@@ -1,7 +1,5 @@
 // What the conditions of refusals 7 to 12 ask of a line: of its event, and of the order that it speaks of, by value.
 ghost use mathlib.Core.Path.{_≡_};
-ghost use lib.ListN.{length};
-ghost use Rattle.layout.specs.Line.{same};
 ghost use Rattle.order.specs.Figure.{Sound};
 ghost use Rattle.order.specs.Names.{sameSeries};
 ghost use Rattle.day.specs.History.{isNew, isMaker, isReplace};
@@ -43,20 +41,12 @@ pub fn subject(r: Record) -> Key
     order::key_of(r)
 }
 
-// Two runs of one length. A function of its own, since its contract speaks of the whole runs, and that of `cell::same` of a part.
-fn same_run(a: &[u8], b: &[u8]) -> bool
-    requires { ⌜ length (now a) ≡ length (now b) ⌝ }
-    ensures { λ r. ⌜ r ≡ same (now (a .entry)) (now (b .entry)) ⌝ }
-{
-    cell::same(a, 0, b)
-}
-
 fn same_series(a: Series, b: Series) -> bool
     ensures { λ r. ⌜ r ≡ sameSeries a b ⌝ }
 {
     let ours = a.root;
     let theirs = b.root;
-    same_run(&ours, &theirs)
+    run::same(&ours, &theirs)
         & (a.month == b.month)
         & (a.date == b.date)
         & (a.year == b.year)

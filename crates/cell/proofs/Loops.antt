@@ -2,26 +2,13 @@
 use Prim.Native.Nat.{ℕ, suc, _+_, _-_, _*_, _/_, _%_, _^_, _≤_, _<_}
 use native.Mathlib.Nat.{pow-suc, pow-le-pow-right, lt-of-lt-of-le, le-refl, sub-self}
 use native.Mathlib.Omega.{arith}
-use mathlib.Core.Path.{_≡_, _∙_}
-use mathlib.Core.Bool.{true, _&&_}
-use mathlib.Core.List.{List, [], _∷_}
-use lib.Dec.{eqb}
-use lib.ListN.{length, getD, drop, set, length-take, drop-of-length-le}
+use mathlib.Core.Path.{_≡_}
+use mathlib.Core.List.{List}
+use lib.ListN.{length, getD, drop, set}
 use lib.Seq.{sets}
-use Rattle.field.proofs.Scan.{at-next}
-use Rattle.layout.specs.Layout.{part}
-use Rattle.layout.specs.Line.{same}
+use Rattle.run.specs.Runs.{part}
 use Rattle.cell.specs.Cells.{le, leBytes}
-use Rattle.cell.proofs.Laws.{length-part, getD-part}
-
--- ---- what is left of a part from its byte i on
-
-rest-next : (l : List ℕ) (at w i : ℕ) → at + w ≤ length l → i < w
-    → drop i (part l at w) ≡ getD l (at + i) 0 ∷ drop (i + 1) (part l at w)
-rest-next l at w i h k = at-next (part l at w) i (rw (length-part l at w h) k) ∙ rw (getD-part l at w i k)
-
-rest-end : (l : List ℕ) (at w i : ℕ) → w ≤ i → drop i (part l at w) ≡ []
-rest-end l at w i h = drop-of-length-le (part l at w) {i = i} (rw length-take (omega arith))
+use Rattle.run.proofs.Parts.{part-next, part-end}
 
 -- ---- get
 
@@ -30,14 +17,14 @@ abbrev pub Got : List ℕ → ℕ → ℕ → ℕ → ℕ → Type 0
 Got l at w v i = (i ≤ w) × (v < 256 ^ (w - i)) × (v ≡ le (drop i (part l at w)))
 
 pub get-first : (l : List ℕ) (at w : ℕ) → Got l at w 0 w
-get-first l at w = (le-refl w, rw sub-self (omega arith), rw (rest-end l at w w (le-refl w)))
+get-first l at w = (le-refl w, rw sub-self (omega arith), rw (part-end l at w w (le-refl w)))
 
 pub get-next : (l : List ℕ) (at w v i : ℕ) → at + w ≤ length l → 0 < i → getD l (at + (i - 1)) 0 < 256
     → Got l at w v i → Got l at w (v * 256 + getD l (at + (i - 1)) 0) (i - 1)
 get-next l at w v i h p b g =
     let more : w - (i - 1) ≡ suc (w - i) = omega arith in
     let back : i - 1 + 1 ≡ i = omega arith in
-    (omega arith, rw (more, pow-suc) (omega arith), rw (rest-next l at w (i - 1) h (omega arith), back, g .2) (omega arith))
+    (omega arith, rw (more, pow-suc) (omega arith), rw (part-next l at w (i - 1) h (omega arith), back, g .2) (omega arith))
 
 -- one byte more fits
 pub get-room : (l : List ℕ) (at w v i : ℕ) → 0 < i → w ≤ 8 → Got l at w v i → v < 256 ^ 7
@@ -59,13 +46,3 @@ put-next l at w i v h =
 
 pub put-end : (l : List ℕ) (at w i v : ℕ) → w ≤ i → sets l at (leBytes (w - i) v) ≡ l
 put-end l at w i v h = let none : w - i ≡ 0 = omega arith in rw none
-
--- ---- same
-
-pub same-rest : (l run : List ℕ) (at i : ℕ) → at + length run ≤ length l → i < length run
-    → same (drop i (part l at (length run))) (drop i run)
-    ≡ (eqb (getD l (at + i) 0) (getD run i 0) && same (drop (i + 1) (part l at (length run))) (drop (i + 1) run))
-same-rest l run at i h k = rw (rest-next l at (length run) i h k, at-next run i k)
-
-pub same-end : (l run : List ℕ) (at i : ℕ) → length run ≤ i → same (drop i (part l at (length run))) (drop i run) ≡ true
-same-end l run at i h = rw (rest-end l at (length run) i h, drop-of-length-le run h)

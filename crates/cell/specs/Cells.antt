@@ -1,8 +1,6 @@
 -- Numbers in a lent buffer, little end first (docs/LAYOUT.md).
 use Prim.Native.Nat.{ℕ, zero, suc, _+_, _*_, _/_, _%_}
-use mathlib.Core.Bool.{Bool}
 use mathlib.Core.List.{List, [], _∷_}
-use lib.Dec.{eqb}
 
 -- the number that bytes say
 abbrev pub le : List ℕ → ℕ
@@ -13,7 +11,3 @@ le (b ∷ s) = b + 256 * le s
 abbrev pub leBytes : ℕ → ℕ → List ℕ
 leBytes zero v = []
 leBytes (suc w) v = v % 256 ∷ leBytes w (v / 256)
-
--- a byte that must be 0
-abbrev pub isZero : ℕ → Bool
-isZero b = eqb b 0

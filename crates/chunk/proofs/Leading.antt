@@ -6,7 +6,7 @@ use mathlib.Core.Bool.{true, false, false≢true}
 use mathlib.Core.List.{List, [], _++_, append-assoc, append-nil}
 use lib.ListN.{length, take}
 use Rattle.table.specs.Tables.{sound, tableLength}
-use Rattle.cell.proofs.Laws.{part-whole}
+use Rattle.run.proofs.Parts.{part-whole}
 use Rattle.table.proofs.Making.{empty-sound}
 use Rattle.book.specs.Bytes.{bytesAfter}
 use Rattle.piece.specs.Pieces.{pieces}

@@ -7,13 +7,13 @@ use mathlib.Core.Bool.{Bool, true, false, cond, not, false≢true}
 use mathlib.Core.List.{List, [], _∷_, map}
 use borrow.Author.Tests.{not-true, eqb-false}
 use lib.Dec.{eqb}
-use Rattle.field.specs.Byte.{all}
+use Rattle.run.specs.Runs.{all}
 use Rattle.refusal.specs.Answer.{Answer, value, refused}
-use Rattle.layout.proofs.Rules.{both}
 use Rattle.layout.specs.Line.{Said}
 use Rattle.day.specs.Machine.{Check, firstOf}
 use Rattle.day.specs.Refusals.{Rule, rule, NoneOf, FirstOf}
 use Rattle.day.specs.Tables.{Table}
+use Rattle.run.proofs.Tests.{both}
 
 -- ---- an answer by the first rule that applies
 

@@ -7,10 +7,10 @@ use mathlib.Core.List.{List, [], _∷_}
 use borrow.Author.Tests.{leb-true, eq-eqb, ne-eqb, not-true}
 use lib.Dec.{leb, eqb}
 use lib.ListN.{length}
-use Rattle.field.specs.Kept.{member}
-use Rattle.layout.proofs.Rules.{both}
+use Rattle.run.specs.Runs.{member}
 use Rattle.day.specs.Damage.{earlier, unshared}
 use Rattle.day.specs.Listing.{elderAt}
+use Rattle.run.proofs.Tests.{both}
 
 -- of a list that begins at place k
 earlier-from : (k : ℕ) (es : List ℕ) → earlier k es ≡ true → (i : ℕ) → i < length es → elderAt es i ≤ k + i

@@ -5,8 +5,8 @@ use mathlib.Core.Path.{_≡_}
 use mathlib.Core.Bool.{true, _&&_}
 use borrow.Author.Tests.{leb-true, le-leb, eqb-true, eq-eqb}
 use lib.Dec.{leb, eqb}
+use Rattle.run.proofs.Tests.{both}
 use Rattle.field.proofs.Fill.{between, is-between}
-use Rattle.layout.proofs.Rules.{both}
 use Rattle.order.specs.Figure.{Sound, freshBy, executedBy, brokenBy, cancelledBy, passedOn}
 use Rattle.order.specs.declared.Figures.{Figures}
 use Rattle.order.specs.Stored.{soundFigures}

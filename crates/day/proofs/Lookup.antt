@@ -4,7 +4,6 @@ use native.Mathlib.Omega.{arith}
 use mathlib.Core.Path.{_≡_, refl, sym, ap, _∙_}
 use mathlib.Core.Bool.{Bool, true, false, cond, _||_, false≢true}
 use mathlib.Core.List.{List, [], _∷_, _++_, map, map-append}
-use Rattle.layout.proofs.Rules.{both}
 use Rattle.layout.specs.Line.{endOfDay, line}
 use Rattle.layout.specs.declared.Record.{Record}
 use Rattle.order.specs.Names.{keyOf, sameKey}
@@ -13,6 +12,7 @@ use Rattle.order.specs.declared.Order.{Order}
 use Rattle.day.specs.History.{History, isMaker, makes, makers, oneMore, placeOf, orderOf, ordersOf, known, making, isOver}
 use Rattle.day.specs.Machine.{Found, nobody, found, find, isFound, place, amend}
 use Rattle.day.specs.Tables.{Table, empty, withOrders, withMark}
+use Rattle.run.proofs.Tests.{both}
 use Rattle.order.proofs.Sameness.{key-eq}
 use Rattle.day.proofs.Legal.{Legal, fresh-unknown}
 

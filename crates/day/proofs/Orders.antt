@@ -7,14 +7,14 @@ use mathlib.Core.List.{List, [], _∷_, _++_, map}
 use borrow.Author.Tests.{leb-true, le-leb, eqb-true, eq-eqb, eqb-false, ne-eqb, not-true}
 use lib.Dec.{leb, eqb, eqb·suc-zero}
 use lib.ListN.{length, length-map}
-use Rattle.field.specs.Kept.{member}
-use Rattle.layout.proofs.Rules.{both, neither}
+use Rattle.run.specs.Runs.{member}
 use Rattle.order.specs.Names.{sameKey}
 use Rattle.order.specs.declared.Key.{Key}
 use Rattle.order.specs.declared.Order.{Order}
 use Rattle.day.specs.Damage.{allSound, eldersOf, earlier, unshared, openAt, closed}
 use Rattle.order.specs.Stored.{soundOrder}
 use Rattle.day.specs.Machine.{found, find, isFound, place, amend}
+use Rattle.run.proofs.Tests.{both, neither}
 
 -- ---- the earliest order with a key
 

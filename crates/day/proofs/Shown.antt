@@ -9,10 +9,10 @@ use mathlib.Core.List.{List, [], _∷_, _++_}
 use borrow.Author.Tests.{eq-eqb, ne-eqb}
 use lib.Dec.{eqb}
 use lib.ListN.{length}
-use Rattle.layout.proofs.Rules.{same-test}
 use Rattle.day.specs.Damage.{earlier, unshared}
 use Rattle.day.specs.Listing.{Member, elderAt, Behind, shown}
 use Rattle.day.specs.Walk.{below, families}
+use Rattle.run.proofs.Tests.{same-test}
 use Rattle.day.proofs.Elders.{earlier-at, unshared-at}
 use Rattle.day.proofs.Listings.{by-test, front, walked}
 

@@ -7,8 +7,7 @@ use mathlib.Core.List.{List, [], _∷_, _++_, map-append}
 use borrow.Author.Tests.{leb-true, le-leb}
 use lib.Dec.{leb}
 use lib.ListN.{length, getD, length-append}
-use Rattle.field.specs.Kept.{member}
-use Rattle.layout.proofs.Rules.{both}
+use Rattle.run.specs.Runs.{member}
 use Rattle.layout.specs.Records.{one}
 use Rattle.layout.specs.Rule.{code, price, num, lawful}
 use Rattle.layout.specs.Layout.{sides}
@@ -20,6 +19,7 @@ use Rattle.day.specs.Damage.{allSound, eldersOf, earlier, unshared, open
 use Rattle.order.specs.Stored.{lawfulKey, lawfulSeries, soundFigures, soundOrder}
 use Rattle.day.specs.Machine.{amend, withFigures, withPrice}
 use Rattle.day.specs.Tables.{Table}
+use Rattle.run.proofs.Tests.{both}
 use Rattle.day.proofs.Figures.{figures-sound, sound-figures}
 use Rattle.day.proofs.Orders.{Finds, finds-sound, length-amend, map-amend, amend-sound, amend-shut, length-elders}
 use Rattle.day.proofs.Orders.{still-closed, earlier-behind, unshared-behind, closed-behind, sound-behind, openAt-behind}

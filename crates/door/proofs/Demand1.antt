@@ -8,7 +8,8 @@ use mathlib.Core.Logic.{inl, inr, ⊎-elim}
 use borrow.Author.Tests.{not-true, eqb-true}
 use lib.Dec.{ltb, leb, eqb}
 use lib.ListN.{length, replicate}
-use Rattle.field.specs.Kept.{member}
+use Rattle.run.specs.Runs.{member}
+use Rattle.run.proofs.Tests.{both as holds, either}
 use Rattle.field.proofs.Fill.{between, is-between}
 use Rattle.refusal.specs.Answer.{Answer, value, refused, refusedBy}
 use Rattle.refusal.specs.Numbers.{numberOf, fieldOf}
@@ -25,8 +26,6 @@ use Rattle.layout.specs.Strikes.{unit, lawfulStrike, strikeValue, formUnder, st
 use Rattle.layout.specs.declared.Clock.{Clock}
 use Rattle.layout.specs.declared.Record.{Record}
 use Rattle.layout.specs.declared.Strike.{Strike}
-use Rattle.layout.proofs.Rules.{either}
-use Rattle.layout.proofs.Rules.{both as holds}
 use Rattle.layout.proofs.Answers.{ReadRefused, ReadSays, read-says, write-says}
 use Rattle.day.specs.Machine.{place, checks, refusalOf, bookRead}
 use Rattle.day.specs.Tables.{Table, Booked}

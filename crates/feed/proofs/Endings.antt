@@ -8,7 +8,7 @@ use borrow.Author.Tests.{eqb-true}
 use lib.Dec.{eqb}
 use lib.ListN.{length, getD, take, drop, length-drop, take-append-drop}
 use lib.Seq.{length-take-le, getD-take, getD-drop}
-use Rattle.field.specs.Kept.{member}
+use Rattle.run.specs.Runs.{member}
 use Rattle.piece.specs.Cuts.{Ended}
 use Rattle.feed.specs.Steps.{endsInLF}
 

@@ -6,7 +6,7 @@ use mathlib.Core.List.{List, [], _∷_, _++_, append-assoc}
 use lib.Dec.{ltb}
 use lib.ListN.{length, drop}
 use lib.Seq.{drop-length, drop-append-add}
-use Rattle.field.specs.Kept.{member}
+use Rattle.run.specs.Runs.{member}
 use Rattle.book.specs.Bytes.{bookBytes, bookAnswer}
 use Rattle.sheet.specs.Promises.{textOf}
 use Rattle.piece.specs.Cuts.{Ended, Cuts}

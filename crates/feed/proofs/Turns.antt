@@ -9,9 +9,9 @@ use borrow.Author.Tests.{eq-eqb, ne-eqb, lt-ltb, le-ltb}
 use lib.Dec.{eqb}
 use lib.ListN.{length, getD, take, drop, length-take, length-drop, drop-of-length-le}
 use lib.Seq.{length-sets, length-take-le}
-use Rattle.field.proofs.Scan.{at-next}
 use Rattle.table.specs.Tables.{sound}
 use Rattle.book.specs.Bytes.{bookBytes, bookAnswer}
+use Rattle.run.proofs.Scan.{at-next}
 use Rattle.book.proofs.Machine.{booked-sound}
 use Rattle.row.specs.Writes.{Wrote}
 use Rattle.sheet.proofs.Joining.{lent, back, one-text}

@@ -12,7 +12,6 @@ ghost use Rattle.feed.specs.Steps.{heldIn, holdLength, keptOf, longest};
 use crate::HOLD;
 use crate::report;
 use book::Booking;
-use field::put;
 
 // A part of a piece behind what is held of it.
 pub fn keep(hold: &mut [u8], held: usize, part: &[u8]) -> usize
@@ -23,7 +22,7 @@ pub fn keep(hold: &mut [u8], held: usize, part: &[u8]) -> usize
 {
     let room = HOLD - held;
     let n = if part.len() < room { part.len() } else { room };
-    put::run(hold, held, &part[0..n]);
+    run::store(hold, held, &part[0..n]);
     held + n
 }
 

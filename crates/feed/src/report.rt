@@ -5,7 +5,6 @@ ghost use Rattle.refusal.specs.Numbers.{numberOf, fieldOf};
 ghost use Rattle.row.specs.Writes.{Put, Wrote};
 ghost use Rattle.feed.specs.Printed.{fieldText, refusalLine};
 ghost use Rattle.feed.specs.Steps.{longest};
-use field::put;
 use refusal::Refusal;
 use row::decimal;
 
@@ -16,7 +15,7 @@ fn put_field(out: &mut [u8], at: usize, x: Refusal) -> usize
     let Refusal::Field(f) = x else {
         return at;
     };
-    put::run(out, at, b" field ");
+    run::store(out, at, b" field ");
     decimal::put_number(out, at + 7, f as u64)
 }
 
@@ -24,11 +23,11 @@ pub fn refused(line: u64, x: Refusal, out: &mut [u8]) -> usize
     requires { ⌜ longest ≤ length (now out) ⌝ }
     ensures { λ r. ⌜ Wrote (refusalLine line (numberOf x) (fieldOf x)) (now (out .entry)) (now (out .exit)) r ⌝ }
 {
-    put::run(out, 0, b"line ");
+    run::store(out, 0, b"line ");
     let number = decimal::put_number(out, 5, line);
-    put::run(out, number, b" refused ");
+    run::store(out, number, b" refused ");
     let refusal = decimal::put_number(out, number + 9, refusal::number(x) as u64);
     let field = put_field(out, refusal, x);
-    put::run(out, field, b"\n");
+    run::store(out, field, b"\n");
     field + 1
 }

@@ -8,12 +8,13 @@ use native.Mathlib.Nat.{le-of-eq, le-refl, sub-zero, lt-of-lt-of-le}
 use lib.ListN.{length, getD, take, drop, length-drop, length-take, drop-of-length-le}
 use lib.Seq.{take-all}
 use borrow.Author.Tests.{le-leb, lt-leb, ne-eqb}
-use Rattle.field.specs.Byte.{all, isOf}
-use Rattle.field.specs.Kept.{isText, isCode, member, kept}
+use Rattle.run.specs.Runs.{all, member}
+use Rattle.field.specs.Byte.{isOf}
+use Rattle.field.specs.Kept.{isText, isCode, kept}
 use Rattle.field.specs.Number.{within, spaced, digitsAfter, dollars, price}
 use Rattle.field.specs.Skipped.{Skipped}
+use Rattle.run.proofs.Scan.{at-next}
 use Rattle.field.proofs.Laws.{pow10-mono, spaced-write, digits-write}
-use Rattle.field.proofs.Scan.{at-next}
 use Rattle.field.specs.declared.Class.the-variants.{Printable}
 use Rattle.field.specs.declared.Bytes.the-variants.{Lawful, Unlawful}
 use Rattle.field.specs.declared.Number.{Number}

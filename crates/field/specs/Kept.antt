@@ -3,7 +3,8 @@ use Prim.Native.Nat.{ℕ}
 use mathlib.Core.Bool.{Bool, true, false, not, _&&_, _||_}
 use mathlib.Core.List.{List, [], _∷_}
 use lib.Dec.{eqb}
-use Rattle.field.specs.Byte.{isOf, all}
+use Rattle.run.specs.Runs.{all, member}
+use Rattle.field.specs.Byte.{isOf}
 use Rattle.field.specs.declared.Class.the-variants.{Printable, Space, Digit, Hex}
 use Rattle.field.specs.declared.Bytes.{Bytes}
 use Rattle.field.specs.declared.Bytes.the-variants.{Lawful, Unlawful}
@@ -28,10 +29,6 @@ isDigitsOrBlank s = all (isOf Digit) s || isBlank s
 -- 01, The line: 13
 abbrev pub isHex : List ℕ → Bool
 isHex s = all (isOf Hex) s
-
-abbrev pub member : ℕ → List ℕ → Bool
-member b [] = false
-member b (code ∷ codes) = eqb b code || member b codes
 
 -- 01, The line: 2, 4, 5, 6, 14, 17, 20: one byte, one of a list of codes
 abbrev pub isCode : List ℕ → List ℕ → Bool

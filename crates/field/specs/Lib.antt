@@ -1,4 +1,4 @@
--- Printable, space, digit, hex: of one, and of all
+-- Printable, space, digit, hex
 pub mod Byte
 -- The kinds of field that stay as they stand
 pub mod Kept

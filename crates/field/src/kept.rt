@@ -1,8 +1,9 @@
 // Fields that are kept as their bytes.
 ghost use mathlib.Core.Path.{_≡_};
-ghost use Rattle.field.specs.Byte.{isOf, all};
+ghost use Rattle.run.specs.Runs.{all};
+ghost use Rattle.field.specs.Byte.{isOf};
 ghost use Rattle.field.specs.Kept.{isText, isBlank, isTextOrBlank, isDigitsOrBlank, isHex, isCode};
-ghost use Rattle.field.specs.Kept.{kept as Kept·kept, member as Kept·member};
+ghost use Rattle.field.specs.Kept.{kept as Kept·kept};
 use crate::Bytes;
 use crate::Class;
 
@@ -78,23 +79,11 @@ pub fn hex(s: &[u8]) -> Bytes
     kept(all_of(s, Class::Hex))
 }
 
-pub fn member(b: u8, codes: &[u8]) -> bool
-    ensures { λ r. ⌜ r ≡ Kept·member b (now (codes .entry)) ⌝ }
-{
-    let mut found = false;
-    let mut i = 0;
-    while i < codes.len() {
-        found = found | (b == codes[i]);
-        i += 1;
-    }
-    found
-}
-
 pub fn code(s: &[u8], codes: &[u8]) -> Bytes
     ensures { λ r. ⌜ r ≡ Kept·kept (isCode (now (codes .entry)) (now (s .entry))) ⌝ }
 {
     if s.len() != 1 {
         return Bytes::Unlawful;
     }
-    kept(member(s[0], codes))
+    kept(run::member(s[0], codes))
 }

@@ -1,8 +1,7 @@
-// A field written into a lent buffer, at its place.
-ghost use Prim.Native.Nat.{_+_, _≤_, _<_, _%_};
+// A number or a price written into a lent buffer, at its place.
+ghost use Prim.Native.Nat.{_+_, _≤_, _%_};
 ghost use mathlib.Core.Path.{_≡_};
 ghost use mathlib.Core.Bool.{cond};
-ghost use mathlib.Core.List.{[], _∷_};
 ghost use lib.Dec.{eqb};
 ghost use lib.ListN.{length};
 ghost use lib.Seq.{sets};
@@ -36,36 +35,10 @@ pub fn filled(out: &mut [u8], at: usize, width: usize, v: u64, fill: u8)
     }
 }
 
-pub fn run(out: &mut [u8], at: usize, s: &[u8])
-    requires { ⌜ at + length (now s) ≤ length (now out) ⌝ }
-    ensures { λ _. ⌜ now (out .exit) ≡ sets (now (out .entry)) at (now (s .entry)) ⌝ }
-{
-    let mut i = 0;
-    while i < s.len() {
-        out[at + i] = s[i];
-        i += 1;
-    }
-}
-
-pub fn byte(out: &mut [u8], at: usize, b: u8)
-    requires { ⌜ at < length (now out) ⌝ }
-    ensures { λ _. ⌜ now (out .exit) ≡ sets (now (out .entry)) at (b ∷ []) ⌝ }
-{
-    out[at] = b;
-}
-
 pub fn price(out: &mut [u8], at: usize, width: usize, v: u64)
     requires { ⌜ (4 ≤ width) × (at + width ≤ length (now out)) ⌝ }
     ensures { λ _. ⌜ now (out .exit) ≡ sets (now (out .entry)) at (priceText width v) ⌝ }
 {
     filled(out, at, width - 4, v / 10000, b' ');
     filled(out, at + (width - 4), 4, v % 10000, b'0');
-}
-
-// All of a run into a buffer of its length.
-pub fn copy(out: &mut [u8], s: &[u8])
-    requires { ⌜ length (now s) ≡ length (now out) ⌝ }
-    ensures { λ _. ⌜ now (out .exit) ≡ now (s .entry) ⌝ }
-{
-    run(out, 0, s);
 }

@@ -9,13 +9,15 @@ use borrow.Author.Tests.{eq-eqb, leb-true, ltb-true}
 use lib.Dec.{leb, eqb}
 use lib.ListN.{length, getD, take, drop}
 use lib.Seq.{length-take-le}
+use Rattle.run.specs.Runs.{part, all, isZero}
 use Rattle.refusal.specs.Answer.{value}
-use Rattle.cell.specs.Cells.{le, leBytes, isZero}
-use Rattle.cell.proofs.Laws.{le-written, getD-part, part-part}
-use Rattle.field.specs.Byte.{all}
+use Rattle.cell.specs.Cells.{le, leBytes}
+use Rattle.run.proofs.Tests.{both}
+use Rattle.run.proofs.Parts.{getD-part, part-part}
+use Rattle.cell.proofs.Laws.{le-written}
 use Rattle.field.proofs.Fill.{between}
 use Rattle.layout.specs.Demand2.{LawfulRecord}
-use Rattle.layout.specs.Layout.{isTrade, leastStrike, tradeId, part}
+use Rattle.layout.specs.Layout.{isTrade, leastStrike, tradeId}
 use Rattle.layout.specs.Line.{line, read, lineOf, rowsFor}
 use Rattle.layout.specs.Records.{typeOf, eventOf, noTrade, tradeOf, matchOf, crossOf, fieldsOf}
 use Rattle.layout.specs.Rule.{num, writes, lawful}
@@ -24,7 +26,6 @@ use Rattle.layout.specs.declared.Event.the-variants.{Accepted, Executed, Cancel
 use Rattle.layout.specs.declared.Record.{Record}
 use Rattle.layout.specs.declared.Trade.{Trade}
 use Rattle.layout.proofs.Answers.{read-back, length-line}
-use Rattle.layout.proofs.Rules.{both}
 use Rattle.record.proofs.Events.{type-lawful, liquidity-text}
 use Rattle.image.specs.Images.{imageOf, oddId, recordIn, unmeant, unwritable}
 use Rattle.image.proofs.Cells.{cells, cellAt, apart, clear, numbers-are-cells, length-cells, part-apart, part-cell}

@@ -9,10 +9,11 @@ use borrow.Author.Tests.{leb-true}
 use lib.Dec.{leb}
 use lib.ListN.{length, getD, drop, set, length-set}
 use lib.Seq.{sets, sets-eq, length-sets}
+use Rattle.run.specs.Runs.{part}
 use Rattle.cell.specs.Cells.{leBytes}
-use Rattle.cell.proofs.Laws.{length-le, part-before, part-after, part-whole}
-use Rattle.layout.proofs.Rules.{both, either}
-use Rattle.layout.specs.Layout.{part}
+use Rattle.run.proofs.Tests.{both, either}
+use Rattle.run.proofs.Parts.{part-before, part-after, part-whole}
+use Rattle.cell.proofs.Laws.{length-le}
 use Rattle.layout.specs.Records.{tradeOf}
 use Rattle.layout.specs.declared.Record.{Record}
 use Rattle.image.specs.Images.{idsSet, earlySet, lateSet, numbersSet}

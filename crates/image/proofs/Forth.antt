@@ -8,17 +8,17 @@ use borrow.Author.Tests.{eqb-true, not-false}
 use lib.Dec.{ltb, eqb}
 use lib.ListN.{length, getD, take, drop, take-append-drop, drop-of-length-le}
 use lib.Seq.{drop-cons, drop-drop}
-use Rattle.cell.specs.Cells.{le, leBytes, isZero}
-use Rattle.cell.proofs.Laws.{le-read, length-part, part-part}
-use Rattle.field.specs.Byte.{all}
-use Rattle.field.specs.Kept.{member}
+use Rattle.run.specs.Runs.{part, all, isZero, member}
+use Rattle.cell.specs.Cells.{le, leBytes}
+use Rattle.run.proofs.Tests.{both, either, neither}
+use Rattle.run.proofs.Parts.{length-part, part-part}
+use Rattle.cell.proofs.Laws.{le-read}
 use Rattle.layout.specs.Demand2.{LawfulRecord}
-use Rattle.layout.specs.Layout.{Row, isTrade, part, placed, types}
+use Rattle.layout.specs.Layout.{Row, isTrade, placed, types}
 use Rattle.layout.specs.Line.{rowsFor}
 use Rattle.layout.specs.Records.{typeOf, eventOf, noTrade, tradeOf}
 use Rattle.layout.specs.declared.Trade.{Trade}
 use Rattle.layout.proofs.Rows.{width}
-use Rattle.layout.proofs.Rules.{both, either, neither}
 use Rattle.record.proofs.Events.{liquidity-text}
 use Rattle.image.specs.Images.{imageOf, isBytes, oddId, recordIn, unwritable}
 use Rattle.image.proofs.Back.{image-length, kept-field, number-cell}

@@ -7,10 +7,9 @@ use mathlib.Core.List.{List}
 use borrow.Author.Tests.{not-false}
 use lib.Dec.{eqb}
 use lib.ListN.{getD}
-use Rattle.cell.specs.Cells.{le, isZero}
-use Rattle.field.specs.Byte.{all}
-use Rattle.field.specs.Kept.{member}
-use Rattle.layout.specs.Layout.{isTrade, part, types}
+use Rattle.run.specs.Runs.{part, all, isZero, member}
+use Rattle.cell.specs.Cells.{le}
+use Rattle.layout.specs.Layout.{isTrade, types}
 use Rattle.image.specs.Images.{oddId, oddLiquidity, unmeant}
 
 pub odd-liquidity-is : (b : List ℕ) (t : Bool) → t ≡ isTrade (getD b 8 0) → (not t && not (eqb (getD b 15 0) 32)) ≡ oddLiquidity b

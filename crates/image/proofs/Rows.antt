@@ -6,8 +6,9 @@ use mathlib.Core.Bool.{true}
 use mathlib.Core.List.{List, _++_, append-assoc}
 use lib.ListN.{length, getD, drop}
 use lib.Seq.{take-at, drop-at, drop-drop}
+use Rattle.run.specs.Runs.{part}
 use Rattle.layout.specs.Demand2.{holds, LawfulRecord}
-use Rattle.layout.specs.Layout.{Row, noRow, layout, part, writeRows}
+use Rattle.layout.specs.Layout.{Row, noRow, layout, writeRows}
 use Rattle.layout.specs.Line.{crlf, rowsFor, lineOf, unlawful}
 use Rattle.layout.specs.Records.{typeOf, fieldsOf}
 use Rattle.layout.specs.Rule.{Value, num, writes}

@@ -6,11 +6,10 @@ use mathlib.Core.List.{List}
 use lib.Dec.{ltb, eqb}
 use lib.ListN.{length, getD, take}
 use lib.Seq.{sets}
-use Rattle.cell.specs.Cells.{le, leBytes, isZero}
-use Rattle.field.specs.Byte.{all}
-use Rattle.field.specs.Kept.{member}
+use Rattle.run.specs.Runs.{part, all, isZero, member}
+use Rattle.cell.specs.Cells.{le, leBytes}
 use Rattle.layout.specs.Demand2.{holds}
-use Rattle.layout.specs.Layout.{isTrade, part, types}
+use Rattle.layout.specs.Layout.{isTrade, types}
 use Rattle.layout.specs.Line.{lineOf, unlawful}
 use Rattle.layout.specs.Records.{tradeOf, recordFrom}
 use Rattle.layout.specs.declared.Numbers.{Numbers}

@@ -6,8 +6,6 @@ ghost use lib.Seq.{sets};
 ghost use Rattle.layout.specs.Line.{line, read};
 ghost use Rattle.refusal.specs.Answer.{value};
 ghost use Rattle.image.specs.Images.{earlySet, idsSet, imageOf, lateSet, numbersIn, oddId, oddLiquidity, recordIn, unmeant as Images·unmeant};
-use field::kept;
-use field::put;
 use layout::Numbers;
 use layout::Record;
 use layout::Trade;
@@ -20,13 +18,13 @@ pub fn unmeant(b: &[u8]) -> u8
     requires { ⌜ length (now b) ≡ 138 ⌝ }
     ensures { λ r. ⌜ r ≡ Images·unmeant (now (b .entry)) ⌝ }
 {
-    if !kept::member(b[8], &rule::TYPES) {
+    if !run::member(b[8], &rule::TYPES) {
         return 2;
     }
     if odd_liquidity(b) {
         return 6;
     }
-    if !cell::zeros(b, 118, 2) {
+    if !run::zeros(b, 118, 2) {
         return 22;
     }
     if odd_id(b, 120) {
@@ -83,7 +81,7 @@ pub fn store(r: Record, piece: &[u8], out: &mut [u8])
     requires { ⌜ 138 ≤ length (now out) ⌝ }
     ensures { λ _. ⌜ now (out .exit) ≡ sets (now (out .entry)) 0 (imageOf r) ⌝ }
 {
-    put::run(out, 0, &piece[0..rule::FIELDS]);
+    run::store(out, 0, &piece[0..rule::FIELDS]);
     put_early(r, out);
     put_late(r, out);
     let event = r.event;

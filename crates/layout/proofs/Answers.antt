@@ -9,15 +9,17 @@ use borrow.Author.Tests.{lt-ltb, le-ltb, ltb-true, ltb-false}
 use lib.Dec.{eqb, ltb}
 use lib.ListN.{length, take, drop}
 use lib.Seq.{take-at}
+use Rattle.run.specs.Runs.{same}
 use Rattle.refusal.specs.Answer.{Answer, value, refused}
 use Rattle.layout.specs.Demand2.{fieldIn, keeps, fieldHeld, holds, LawfulLine, LawfulRecord, First}
 use Rattle.layout.specs.Layout.{say, breaks}
-use Rattle.layout.specs.Line.{Said, endOfDay, line, crlf, same, isLine, printable, rowsOf, saidBy, read, lineOf, unlawful, write, outAfter, writeInto}
+use Rattle.layout.specs.Line.{Said, endOfDay, line, crlf, isLine, printable, rowsOf, saidBy, read, lineOf, unlawful, write, outAfter, writeInto}
 use Rattle.layout.specs.Records.{recordOf}
 use Rattle.layout.specs.Rule.{Value, got}
 use Rattle.layout.specs.declared.Record.{Record}
+use Rattle.run.proofs.Sameness.{same-true}
 use Rattle.layout.proofs.First.{firstOf, judged, Says, judged-says, every-judged}
-use Rattle.layout.proofs.Lines.{tiles-of, same-true, line-length, other-than, line-other, recordIn, line-fields, line-record, record-line}
+use Rattle.layout.proofs.Lines.{tiles-of, line-length, other-than, line-other, recordIn, line-fields, line-record, record-line}
 use Rattle.layout.proofs.Rows.{valueOf, told, told-at, firstBroken, read-rows, kept-got}
 
 -- ---- reading, case by case

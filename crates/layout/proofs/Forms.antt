@@ -7,7 +7,7 @@ use mathlib.Core.Logic.{_⊎_, inl, inr, ⊎-elim}
 use mathlib.Core.Bool.{Bool, true, false, cond, _&&_, _||_, and-false, and-eq-true-iff, false≢true}
 use borrow.Author.Tests.{eqb-true, lt-leb}
 use lib.Dec.{eqb}
-use Rattle.field.specs.Kept.{member}
+use Rattle.run.specs.Runs.{member}
 use Rattle.field.proofs.Fill.{between, is-between}
 use Rattle.refusal.specs.Answer.{Answer, value, refused}
 use Rattle.layout.specs.Forms.{OneForm}

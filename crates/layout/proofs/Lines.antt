@@ -9,17 +9,18 @@ use borrow.Author.Tests.{eqb-true}
 use lib.Dec.{eqb}
 use lib.ListN.{length, getD, take, drop, length-append}
 use lib.Seq.{take-at, drop-at, getD-drop}
-use Rattle.field.specs.Byte.{isOf, all}
-use Rattle.field.specs.Kept.{member}
+use Rattle.run.specs.Runs.{part, same, all, member}
+use Rattle.field.specs.Byte.{isOf}
 use Rattle.field.specs.declared.Class.the-variants.{Printable}
 use Rattle.layout.specs.Demand2.{rowAt, isGot, keeps, holds, LawfulLine, LawfulRecord}
-use Rattle.layout.specs.Layout.{Row, layout, types, liquidities, denominators, isTrade, isReplace, idNumber, part, firstUnlawful, writeRows, placed, fitting}
-use Rattle.layout.specs.Line.{crlf, same, isLine, printable, rowsOf, rowsFor, lineOf}
+use Rattle.layout.specs.Layout.{Row, layout, types, liquidities, denominators, isTrade, isReplace, idNumber, firstUnlawful, writeRows, placed, fitting}
+use Rattle.layout.specs.Line.{crlf, isLine, printable, rowsOf, rowsFor, lineOf}
 use Rattle.layout.specs.Records.{typeOf, fieldsOf, recordOf, runOf, byteAt}
 use Rattle.layout.specs.Rule.{Rule, code, kept, text, blank, Value, gotRun, reads, fits}
 use Rattle.layout.specs.declared.Record.{Record}
+use Rattle.run.proofs.Tests.{both}
+use Rattle.run.proofs.Sameness.{same-true}
 use Rattle.layout.proofs.First.{first-every, every-first}
-use Rattle.layout.proofs.Rules.{both}
 use Rattle.layout.proofs.Rows.{tiles, tiles-from, readsAt, valueOf, told, firstBroken}
 use Rattle.layout.proofs.Rows.{Lawful, lawful-first, first-lawful, told-lawful, lawful-width, lawful-printable, lawful-told}
 use Rattle.layout.proofs.Values.{record-fields, fields-record}
@@ -77,14 +78,6 @@ own-layout t d s vs e q =
     ap₂ layout (sym (own .0) ∙ ap (λ (us : List Value). byteAt us 1) q) (sym (own .1) ∙ ap (λ (us : List Value). byteAt us 19) q)
 
 -- ---- pieces
-
-pub same-true : (s t : List ℕ) → same s t ≡ true → s ≡ t
-same-true [] [] e = refl
-same-true [] (b ∷ t) e = absurd (false≢true e)
-same-true (a ∷ s) [] e = absurd (false≢true e)
-same-true (a ∷ s) (b ∷ t) e =
-    let h = both (eqb a b) (same s t) e in
-    ap₂ {B = List ℕ} {C = List ℕ} _∷_ (eqb-true a b (h .0)) (same-true s t (h .1))
 
 pub line-length : (s : List ℕ) → isLine s ≡ true → length s ≡ 140
 line-length s l = eqb-true (length s) 140 (both (eqb (length s) 140) (same (drop 138 s) crlf) l .0)

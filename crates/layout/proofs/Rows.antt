@@ -9,12 +9,15 @@ use borrow.Author.Tests.{eqb-true, ne-eqb}
 use lib.Dec.{eqb}
 use lib.ListN.{length, getD, drop, length-append, length-drop, take-append-drop}
 use lib.Seq.{take-at, drop-at, drop-drop, append-snoc, length-take-le}
-use Rattle.field.specs.Byte.{isOf, all}
+use Rattle.run.specs.Runs.{part, all}
+use Rattle.field.specs.Byte.{isOf}
 use Rattle.field.specs.declared.Class.the-variants.{Printable}
 use Rattle.layout.specs.Demand2.{isGot}
-use Rattle.layout.specs.Layout.{Row, noRow, part, breaks, say, onGot, readRows, firstUnlawful, writeRows, placed, fitting}
+use Rattle.layout.specs.Layout.{Row, noRow, breaks, say, onGot, readRows, firstUnlawful, writeRows, placed, fitting}
 use Rattle.layout.specs.Rule.{Value, num, Got, got, broken, reads, lawful, writes, fits}
-use Rattle.layout.proofs.Rules.{both, reads-writes, writes-reads, writes-printable, all-append}
+use Rattle.run.proofs.Tests.{both}
+use Rattle.run.proofs.All.{all-append}
+use Rattle.layout.proofs.Rules.{reads-writes, writes-reads, writes-printable}
 
 -- how many bytes the rows take
 abbrev pub width : List Row → ℕ

@@ -2,45 +2,27 @@
 -- reads back, in bytes that a line may have.
 use Prim.Native.Nat.{ℕ, zero, suc, _+_, _-_, _/_, _%_, _^_, _≤_, _<_}
 use native.Mathlib.Omega.{arith}
-use mathlib.Core.Path.{_≡_, refl, sym}
-use mathlib.Core.Bool.{Bool, true, false, cond, not, _&&_, _||_, and-eq-true-iff, true≢false, false≢true}
+use mathlib.Core.Path.{_≡_, refl}
+use mathlib.Core.Bool.{Bool, true, false, cond, not, _&&_, false≢true}
 use mathlib.Core.List.{List, [], _∷_, _++_}
-use borrow.Author.Tests.{eqb-true, eqb-false, eq-eqb, ne-eqb, ltb-true, lt-ltb, leb-true}
+use borrow.Author.Tests.{eqb-true, eq-eqb, ltb-true, lt-ltb, leb-true}
 use lib.Dec.{leb, ltb, eqb}
 use lib.ListN.{length}
-use Rattle.field.specs.Byte.{isOf, all}
-use Rattle.field.specs.Kept.{member, isCode, isText, isBlank}
+use Rattle.run.specs.Runs.{all, member}
+use Rattle.field.specs.Byte.{isOf}
+use Rattle.field.specs.Kept.{isCode, isText, isBlank}
 use Rattle.field.specs.Number.{spaced, digitsAfter, within, rest, filled}
 use Rattle.field.specs.Number.{price as readPrice}
 use Rattle.field.specs.declared.Class.{Class}
 use Rattle.field.specs.declared.Class.the-variants.{Printable, Space, Digit, Hex}
 use Rattle.field.specs.declared.Number.{Number}
 use Rattle.field.specs.declared.Number.the-variants.{Value as Number·Value, Bad}
+use Rattle.run.proofs.Tests.{both, either}
+use Rattle.run.proofs.All.{all-append, all-wider}
 use Rattle.field.proofs.Fill.{between, is-between}
 use Rattle.field.proofs.Laws.{within-value, length-filled, length-price, digits-read, digits-write, spaced-back, spaced-write, price-read, price-write}
 use Rattle.layout.specs.Rule.{Kind, text, textOrBlank, blank, digitsOrBlank, hex, isKind, Rule, number, digits, price, code, kept}
 use Rattle.layout.specs.Rule.{Value, num, run, got, broken, gotNumber, gotRun, reads, lawful, writes, fits}
-
--- ---- tests
-
-pub both : (a b : Bool) → (a && b) ≡ true → (a ≡ true) × (b ≡ true)
-both a b = and-eq-true-iff a b .0
-
-pub either : (a b : Bool) {P : Type 0} → (a ≡ true → P) → (b ≡ true → P) → (a || b) ≡ true → P
-either true b f g e = f refl
-either false b f g e = g e
-
-pub neither : (a b : Bool) → (a || b) ≡ false → (a ≡ false) × (b ≡ false)
-neither true b e = absurd (true≢false e)
-neither false b e = (refl, e)
-
--- two tests that hold in the same cases
-pub same-test : (a b c d : ℕ) → (a ≡ b → c ≡ d) → (c ≡ d → a ≡ b) → eqb a b ≡ eqb c d
-same-test a b c d f g = go (eqb a b) refl
-  where
-    go : (t : Bool) → eqb a b ≡ t → t ≡ eqb c d
-    go true e = sym (eq-eqb c d (f (eqb-true a b e)))
-    go false e = sym (ne-eqb c d (λ q. eqb-false a b e (g q)))
 
 broken-got : {v : Value} → broken ≡ got v → ⊥
 broken-got e = let z : _≡_ {A = ℕ} 0 1 = cc in omega arith
@@ -115,14 +97,6 @@ writes-reads (kept kind) w (run b) f l =
     (rw (h .1), eqb-true (length b) w (h .0))
 
 -- ---- what is written is printable
-
-pub all-append : (p : ℕ → Bool) (s t : List ℕ) → all p s ≡ true → all p t ≡ true → all p (s ++ t) ≡ true
-all-append p [] t h k = k
-all-append p (b ∷ s) t h k = let d = both (p b) (all p s) h in rw (d .0) (all-append p s t (d .1) k)
-
-pub all-wider : (p q : ℕ → Bool) → ((b : ℕ) → p b ≡ true → q b ≡ true) → (s : List ℕ) → all p s ≡ true → all q s ≡ true
-all-wider p q h [] e = refl
-all-wider p q h (b ∷ s) e = let d = both (p b) (all p s) e in rw (h b (d .0)) (all-wider p q h s (d .1))
 
 range-printable : (a z : ℕ) → 32 ≤ a → z ≤ 126 → (b : ℕ) → (leb a b && leb b z) ≡ true → isOf Printable b ≡ true
 range-printable a z h k b e = let d = between a z b e in is-between 32 126 b (omega arith) (omega arith)

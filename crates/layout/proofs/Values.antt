@@ -6,7 +6,8 @@ use mathlib.Core.List.{List, [], _∷_}
 use borrow.Author.Tests.{eqb-true}
 use lib.Dec.{eqb}
 use lib.ListN.{length, getD, drop, set, replicate}
-use Rattle.field.specs.Kept.{member, isCode, isBlank}
+use Rattle.run.specs.Runs.{member}
+use Rattle.field.specs.Kept.{isCode, isBlank}
 use Rattle.layout.specs.Layout.{Row, layout, types}
 use Rattle.layout.specs.Records.{typeOf, eventOf, one, missing, liquidityOf, matchOf, crossOf, fieldsOf, numOf, runOf, byteAt, recordOf}
 use Rattle.layout.specs.Rule.{Kind, text, textOrBlank, blank, digitsOrBlank, hex, isKind, Rule, number, digits, price, code, kept}
@@ -14,7 +15,7 @@ use Rattle.layout.specs.Rule.{Value, num, run, lawful}
 use Rattle.layout.specs.declared.Event.{Event}
 use Rattle.layout.specs.declared.Event.the-variants.{Accepted, Executed, Cancelled, Broken, Replaced, Repriced}
 use Rattle.layout.specs.declared.Record.{Record}
-use Rattle.layout.proofs.Rules.{both, either}
+use Rattle.run.proofs.Tests.{both, either}
 use Rattle.layout.proofs.Rows.{Lawful, none, more}
 
 -- ---- from a record and back

@@ -5,8 +5,9 @@ use mathlib.Core.Bool.{Bool, true, false}
 use mathlib.Core.List.{List, _++_}
 use mathlib.Core.Logic.{_⊎_, _↔_}
 use lib.ListN.{length, getD, drop}
+use Rattle.run.specs.Runs.{part}
 use Rattle.refusal.specs.Answer.{Answer, value, refused}
-use Rattle.layout.specs.Layout.{Row, noRow, part}
+use Rattle.layout.specs.Layout.{Row, noRow}
 use Rattle.layout.specs.Line.{Said, line, endOfDay, crlf, isLine, printable, rowsOf, rowsFor}
 use Rattle.layout.specs.Records.{fieldsOf}
 use Rattle.layout.specs.Rule.{Value, num, Got, got, broken, reads, lawful}

@@ -4,7 +4,7 @@ use Prim.Native.String.{String}
 use mathlib.Core.Bool.{Bool, true, cond, _&&_, _||_}
 use mathlib.Core.List.{List, [], _∷_, _++_}
 use lib.Dec.{eqb}
-use lib.ListN.{take, drop}
+use Rattle.run.specs.Runs.{part}
 use Rattle.layout.specs.Rule.{Rule, number, digits, price, code, kept, text, textOrBlank, blank, digitsOrBlank, hex, Value, Got, got, broken, reads, writes, lawful, fits}
 
 -- 01, The line: the columns No, Field, At, Len and Rule
@@ -109,10 +109,6 @@ layout t d =
     ∷ row 23 "Match Id" 120 9 (tradeId t)
     ∷ row 24 "Cross Id" 129 9 (tradeId t)
     ∷ []
-
--- the bytes of a field
-abbrev pub part : List ℕ → ℕ → ℕ → List ℕ
-part s at len = take len (drop at s)
 
 -- the first field that breaks its rule, or what all fields say
 pub data Fields : Type 0 where

@@ -1,10 +1,11 @@
 -- 01, The line, and Refusals 1 to 4: reading a piece and writing a record.
 use Prim.Native.Nat.{ℕ}
-use mathlib.Core.Bool.{Bool, true, false, cond, _&&_}
+use mathlib.Core.Bool.{Bool, cond, _&&_}
 use mathlib.Core.List.{List, [], _∷_, _++_}
 use lib.Dec.{ltb, eqb}
 use lib.ListN.{length, getD, take, drop}
-use Rattle.field.specs.Byte.{isOf, all}
+use Rattle.run.specs.Runs.{same, all}
+use Rattle.field.specs.Byte.{isOf}
 use Rattle.field.specs.declared.Class.the-variants.{Printable}
 use Rattle.refusal.specs.Answer.{Answer, value, refused}
 use Rattle.layout.specs.Layout.{layout, Fields, breaks, say, readRows, firstUnlawful, writeRows, Row}
@@ -18,12 +19,6 @@ pub data Said : Type 0 where
 
 abbrev pub crlf : List ℕ
 crlf = 13 ∷ 10 ∷ []
-
-abbrev pub same : List ℕ → List ℕ → Bool
-same [] [] = true
-same [] (b ∷ t) = false
-same (a ∷ s) [] = false
-same (a ∷ s) (b ∷ t) = eqb a b && same s t
 
 -- 01, Refusals by number: 1: 140 bytes ending in CR LF
 abbrev pub isLine : List ℕ → Bool

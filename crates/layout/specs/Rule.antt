@@ -4,7 +4,8 @@ use mathlib.Core.Bool.{Bool, true, false, _&&_}
 use mathlib.Core.List.{List}
 use lib.Dec.{leb, ltb, eqb}
 use lib.ListN.{length}
-use Rattle.field.specs.Byte.{isOf, all}
+use Rattle.run.specs.Runs.{all}
+use Rattle.field.specs.Byte.{isOf}
 use Rattle.field.specs.Kept.{isText, isTextOrBlank, isBlank, isDigitsOrBlank, isHex, isCode}
 use Rattle.field.specs.Number.{filled, priceText}
 use Rattle.field.specs.Number.{number as readNumber, digits as readDigits, price as readPrice}

@@ -2,7 +2,7 @@
 use Prim.Native.Nat.{ℕ, _*_, _/_, _%_}
 use mathlib.Core.Bool.{Bool, cond, _&&_}
 use lib.Dec.{eqb}
-use Rattle.field.specs.Kept.{member}
+use Rattle.run.specs.Runs.{member}
 use Rattle.refusal.specs.Answer.{Answer, value, refused}
 use Rattle.layout.specs.Layout.{denominators, strikeUnder}
 use Rattle.layout.specs.Rule.{num, lawful}

@@ -9,11 +9,12 @@ use borrow.Author.Tests.{eq-eqb, ne-eqb}
 use lib.Dec.{eqb}
 use lib.ListN.{length, getD, take, drop, length-drop}
 use lib.Seq.{take-all}
-use Rattle.field.specs.Byte.{isOf, all}
+use Rattle.run.specs.Runs.{same, all}
+use Rattle.field.specs.Byte.{isOf}
 use Rattle.field.specs.declared.Class.the-variants.{Printable}
 use Rattle.refusal.specs.declared.Refusal.the-variants.{NoLine, BadByte}
 use Rattle.layout.specs.Layout.{Fields, breaks, say, readRows}
-use Rattle.layout.specs.Line.{same, crlf, rowsOf, saidBy, read}
+use Rattle.layout.specs.Line.{crlf, rowsOf, saidBy, read}
 use Rattle.layout.specs.declared.Record.{Record}
 use Rattle.line.specs.Groups.{readingOf, readingFrom, noNumbers, refusedReading}
 use Rattle.line.specs.Promises.{Read, blankRecord, saidOf, unusedOf}

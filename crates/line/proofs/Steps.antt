@@ -6,6 +6,7 @@ use mathlib.Core.List.{List, [], _∷_, _++_}
 use native.Mathlib.Omega.{arith}
 use lib.ListN.{getD, take, drop}
 use lib.Seq.{take-suc, drop-cons}
+use Rattle.run.specs.Runs.{part}
 use Rattle.field.specs.Kept.{isCode}
 use Rattle.field.specs.Kept.{kept as keptAnswer}
 use Rattle.field.specs.declared.Bytes.{Bytes}
@@ -13,7 +14,7 @@ use Rattle.field.specs.declared.Bytes.the-variants.{Lawful, Unlawful}
 use Rattle.field.specs.declared.Number.{Number}
 use Rattle.field.specs.declared.Number.the-variants.{Value as Number·Value, Bad}
 use Rattle.refusal.specs.declared.Refusal.the-variants.{Field}
-use Rattle.layout.specs.Layout.{Row, noRow, part, breaks, readRows, onGot}
+use Rattle.layout.specs.Layout.{Row, noRow, breaks, readRows, onGot}
 use Rattle.layout.specs.Line.{rowsOf}
 use Rattle.layout.specs.Rule.{code, kept, Kind, isKind, Value, num, run, Got, got, broken, reads, gotNumber, gotRun}
 use Rattle.line.specs.Groups.{valuesOf, readingOf, readingFrom, refusedReading}

@@ -6,7 +6,8 @@ use native.Mathlib.Nat.{add-zero}
 use lib.Dec.{lit<}
 use lib.ListN.{getD, drop}
 use lib.Seq.{getD-take, getD-drop}
-use Rattle.layout.specs.Layout.{isTrade, part}
+use Rattle.run.specs.Runs.{part}
+use Rattle.layout.specs.Layout.{isTrade}
 use Rattle.layout.specs.Records.{eventOf, recordOf, numOf, recordFrom}
 use Rattle.layout.specs.declared.Numbers.{Numbers}
 use Rattle.layout.specs.declared.Record.{Record}

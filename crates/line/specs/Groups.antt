@@ -2,9 +2,10 @@
 use Prim.Native.Nat.{ℕ}
 use mathlib.Core.List.{List, [], _∷_}
 use lib.ListN.{getD, take, drop}
+use Rattle.run.specs.Runs.{part}
 use Rattle.refusal.specs.declared.Refusal.{Refusal}
 use Rattle.refusal.specs.declared.Refusal.the-variants.{Field}
-use Rattle.layout.specs.Layout.{Fields, breaks, say, isTrade, part, readRows}
+use Rattle.layout.specs.Layout.{Fields, breaks, say, isTrade, readRows}
 use Rattle.layout.specs.Line.{rowsOf}
 use Rattle.layout.specs.Records.{recordOf}
 use Rattle.layout.specs.Rule.{Value, num, run}

@@ -2,7 +2,8 @@
 // more than the prover takes at once.
 ghost use mathlib.Core.Path.{_≡_};
 ghost use lib.ListN.{length};
-ghost use Rattle.layout.specs.Line.{same, crlf};
+ghost use Rattle.run.specs.Runs.{same};
+ghost use Rattle.layout.specs.Line.{crlf};
 ghost use Rattle.line.specs.Groups.{readingFrom, refusedReading, noNumbers};
 ghost use Rattle.line.specs.Promises.{Read, blankRecord};
 use crate::Outcome;

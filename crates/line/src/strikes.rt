@@ -4,7 +4,6 @@ ghost use Rattle.layout.specs.Strikes.{formUnder, unit as Strikes·unit};
 ghost use Rattle.line.specs.Promises.{StrikeValued, StrikeFormed, formSaid};
 use crate::StrikeForm;
 use crate::StrikeValue;
-use field::kept;
 use layout::Strike;
 use refusal::Refusal;
 
@@ -25,7 +24,7 @@ fn unit(denominator: u8) -> u64
 pub fn strike_value(denominator: u8, digits: u64) -> StrikeValue
     ensures { λ x. ⌜ StrikeValued denominator digits x ⌝ }
 {
-    if !kept::member(denominator, &rule::DENOMINATORS) {
+    if !run::member(denominator, &rule::DENOMINATORS) {
         return StrikeValue::Refused(Refusal::Field(20));
     }
     if !rule::strike(denominator, digits) {

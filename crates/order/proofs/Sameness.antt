@@ -1,21 +1,15 @@
 -- The tests of keys and of series say that they are equal.
-use Prim.Native.Nat.{ℕ}
 use mathlib.Core.Path.{_≡_, refl, sym, subst}
 use mathlib.Core.Bool.{Bool, true, false, _&&_}
-use mathlib.Core.List.{List, [], _∷_}
 use mathlib.Core.Logic.{_↔_}
 use borrow.Author.Tests.{eqb-true, eq-eqb}
 use lib.Dec.{eqb}
-use Rattle.layout.proofs.Lines.{same-true}
-use Rattle.layout.proofs.Rules.{both}
-use Rattle.layout.specs.Line.{same}
+use Rattle.run.specs.Runs.{same}
 use Rattle.order.specs.Names.{sameKey, sameSeries}
 use Rattle.order.specs.declared.Key.{Key}
 use Rattle.order.specs.declared.Series.{Series}
-
-same-self : (s : List ℕ) → same s s ≡ true
-same-self [] = refl
-same-self (a ∷ s) = rw (eq-eqb a a refl) (same-self s)
+use Rattle.run.proofs.Tests.{both}
+use Rattle.run.proofs.Sameness.{same-self, same-true}
 
 -- ---- keys
 

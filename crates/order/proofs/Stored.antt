@@ -7,14 +7,15 @@ use mathlib.Core.List.{List}
 use borrow.Author.Tests.{eq-eqb, ne-eqb}
 use lib.Dec.{leb, eqb, leb·zero}
 use lib.ListN.{length}
-use Rattle.field.specs.Kept.{isText, member}
+use Rattle.run.specs.Runs.{member}
+use Rattle.field.specs.Kept.{isText}
 use Rattle.layout.specs.Layout.{sides, months, denominators}
 use Rattle.layout.specs.Rule.{kept, text, run, lawful}
 use Rattle.layout.specs.Strikes.{lawfulStrike}
-use Rattle.layout.proofs.Rules.{same-test}
 use Rattle.order.specs.declared.Figures.{Figures}
 use Rattle.order.specs.declared.Order.{Order}
 use Rattle.order.specs.declared.Series.{Series}
+use Rattle.run.proofs.Tests.{same-test}
 use Rattle.rule.proofs.Answers.{price-most}
 use Rattle.order.specs.Stored.{lawfulKey, lawfulSeries, soundFigures, soundOrder}
 

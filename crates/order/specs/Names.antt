@@ -1,7 +1,7 @@
 -- 01, Orders and their figures: keys and series, as a line gives them, and when two are the same.
 use mathlib.Core.Bool.{Bool, _&&_}
 use lib.Dec.{eqb}
-use Rattle.layout.specs.Line.{same}
+use Rattle.run.specs.Runs.{same}
 use Rattle.layout.specs.declared.Record.{Record}
 use Rattle.order.specs.declared.Key.{Key}
 use Rattle.order.specs.declared.Series.{Series}

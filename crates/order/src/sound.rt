@@ -33,10 +33,10 @@ fn lawful_series(s: Series) -> bool
 {
     let root = s.root;
     is_text(&root)
-        & kept::member(s.month, &rule::MONTHS)
+        & run::member(s.month, &rule::MONTHS)
         & rule::within(s.date, rule::FIRST_DATE, rule::LAST_DATE)
         & rule::within(s.year, 0, rule::LAST_YEAR)
-        & kept::member(s.denominator, &rule::DENOMINATORS)
+        & run::member(s.denominator, &rule::DENOMINATORS)
         & rule::strike(s.denominator, s.strike)
 }
 
@@ -73,7 +73,7 @@ pub fn sound_order(o: Order) -> bool
     let series = o.series;
     let figures = o.figures;
     lawful_key(key)
-        & kept::member(o.side, &rule::SIDES)
+        & run::member(o.side, &rule::SIDES)
         & lawful_series(series)
         & rule::within(o.price, 0, rule::MOST_PRICE)
         & sound_figures(figures)

@@ -7,8 +7,8 @@ use mathlib.Core.List.{List, [], _∷_}
 use lib.Dec.{eqb}
 use lib.ListN.{length, getD, take, drop}
 use lib.Seq.{drop-drop}
-use Rattle.field.proofs.Scan.{at-next}
 use Rattle.piece.specs.Pieces.{joinFirst, pieces, pieceLength}
+use Rattle.run.proofs.Scan.{at-next}
 
 -- the first piece of a text, and what is left behind it
 abbrev pub front : List ℕ → List ℕ

@@ -7,9 +7,9 @@ use mathlib.Core.List.{List, [], _∷_}
 use borrow.Author.Tests.{lt-ltb, le-ltb, eq-eqb, ne-eqb}
 use lib.Dec.{eqb}
 use lib.ListN.{length, getD, drop, drop-of-length-le}
-use Rattle.field.proofs.Scan.{at-next}
 use Rattle.piece.specs.Pieces.{pieceLength, nextPiece}
 use Rattle.piece.specs.declared.Ahead.the-variants.{Piece, Nothing}
+use Rattle.run.proofs.Scan.{at-next}
 
 module _ (s : List ℕ) (i : ℕ) where
   -- the byte at i is no LF

@@ -2,8 +2,8 @@
 use Prim.Native.Nat.{ℕ}
 use mathlib.Core.Path.{_≡_}
 use mathlib.Core.List.{List, [], _∷_, _++_}
-use Rattle.field.specs.Kept.{member}
 use mathlib.Core.Bool.{false}
+use Rattle.run.specs.Runs.{member}
 
 -- up to and including the next LF
 abbrev pub Ended : List ℕ → Type 0

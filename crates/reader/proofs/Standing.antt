@@ -7,9 +7,9 @@ use mathlib.Core.List.{List}
 use borrow.Author.Tests.{ltb-true, ltb-false, lt-ltb, le-ltb}
 use lib.Dec.{ltb}
 use lib.ListN.{length, getD, take, drop, drop-of-length-le, length-drop}
-use Rattle.field.proofs.Scan.{at-next}
 use Rattle.piece.specs.Pieces.{pieces, pieceLength, nextPiece}
 use Rattle.piece.specs.declared.Ahead.the-variants.{Piece, Nothing}
+use Rattle.run.proofs.Scan.{at-next}
 use Rattle.piece.proofs.Firsts.{first-piece-at}
 use Rattle.piece.proofs.Lengths.{ends-at-end, piece-some, piece-inside}
 use Rattle.reader.specs.Starting.{pieceFrom, placeBehind, placeIn}

@@ -3,7 +3,7 @@ use mathlib.Core.Path.{_≡_, refl}
 use mathlib.Core.Bool.{true, _&&_}
 use mathlib.Core.List.{[], _∷_}
 use lib.Dec.{leb}
-use Rattle.field.specs.Kept.{member}
+use Rattle.run.specs.Runs.{member}
 use Rattle.layout.specs.Layout.{types, liquidities, onTrade, tradeId}
 use Rattle.layout.specs.Records.{typeOf, tradeOf, one, liquidityOf, matchOf, crossOf}
 use Rattle.layout.specs.Rule.{code, kept, blank, lawful, writes}

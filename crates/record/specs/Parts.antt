@@ -1,7 +1,7 @@
 -- 01, The line: the runs of bytes that a record keeps, in the two lots in which they are copied.
 use Prim.Native.Nat.{ℕ}
 use mathlib.Core.List.{List}
-use Rattle.layout.specs.Layout.{part}
+use Rattle.run.specs.Runs.{part}
 use Rattle.record.specs.declared.Names.{Names}
 use Rattle.record.specs.declared.Parties.{Parties}
 

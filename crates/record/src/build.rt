@@ -7,7 +7,6 @@ ghost use Rattle.record.specs.Parts.{partiesOf, namesOf};
 use crate::Names;
 use crate::Parties;
 use crate::event::event_of;
-use field::put;
 use layout::Event;
 use layout::Numbers;
 use layout::Record;
@@ -18,13 +17,13 @@ fn parties(s: &[u8]) -> Parties
     ensures { λ r. ⌜ r ≡ partiesOf (now (s .entry)) ⌝ }
 {
     let mut firm = [0u8; 4];
-    put::copy(&mut firm, &s[9..13]);
+    run::copy(&mut firm, &s[9..13]);
     let mut account = [0u8; 4];
-    put::copy(&mut account, &s[16..20]);
+    run::copy(&mut account, &s[16..20]);
     let mut member = [0u8; 5];
-    put::copy(&mut member, &s[20..25]);
+    run::copy(&mut member, &s[20..25]);
     let mut clearing = [0u8; 5];
-    put::copy(&mut clearing, &s[25..30]);
+    run::copy(&mut clearing, &s[25..30]);
     Parties {
         firm,
         account,
@@ -38,15 +37,15 @@ fn names(s: &[u8]) -> Names
     ensures { λ r. ⌜ r ≡ namesOf (now (s .entry)) ⌝ }
 {
     let mut source = [0u8; 6];
-    put::copy(&mut source, &s[30..36]);
+    run::copy(&mut source, &s[30..36]);
     let mut token = [0u8; 20];
-    put::copy(&mut token, &s[36..56]);
+    run::copy(&mut token, &s[36..56]);
     let mut replaced = [0u8; 20];
-    put::copy(&mut replaced, &s[56..76]);
+    run::copy(&mut replaced, &s[56..76]);
     let mut reference = [0u8; 9];
-    put::copy(&mut reference, &s[76..85]);
+    run::copy(&mut reference, &s[76..85]);
     let mut root = [0u8; 6];
-    put::copy(&mut root, &s[92..98]);
+    run::copy(&mut root, &s[92..98]);
     Names {
         source,
         token,

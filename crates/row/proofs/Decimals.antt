@@ -8,13 +8,14 @@ use mathlib.Core.List.{List, [], _∷_, _++_}
 use borrow.Author.Tests.{lt-ltb, le-ltb, ltb-true, ltb-false, ne-eqb}
 use lib.Dec.{ltb}
 use lib.ListN.{length}
-use Rattle.field.specs.Byte.{all, isOf}
+use Rattle.run.specs.Runs.{all}
+use Rattle.field.specs.Byte.{isOf}
 use Rattle.field.specs.Number.{spaced, rest, filled}
 use Rattle.field.specs.declared.Class.the-variants.{Digit}
 use Rattle.field.specs.declared.Number.the-variants.{Value}
+use Rattle.run.proofs.Tests.{both}
 use Rattle.field.proofs.Fill.{Written, is-between, length-snoc, snoc-written}
 use Rattle.field.proofs.Laws.{spaced-read}
-use Rattle.layout.proofs.Rules.{both}
 use Rattle.row.specs.Texts.{decimalIn, decimal}
 
 -- ---- a number of one digit, and one digit more

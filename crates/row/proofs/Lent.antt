@@ -5,12 +5,12 @@ use native.Mathlib.Omega.{arith}
 use mathlib.Core.Path.{_≡_, sym, ap, ap₂, _∙_}
 use mathlib.Core.List.{List}
 use lib.ListN.{length, take, drop, length-take}
-use Rattle.cell.proofs.Laws.{length-part, part-part}
 use Rattle.order.specs.declared.Figures.{Figures}
 use Rattle.slot.specs.Slots.{figuresIn, orderIn}
 use Rattle.slot.specs.Places.{slot, slotAt}
 use Rattle.row.specs.Texts.{decimal, trimmed, figuresText, namesText, rankText, orderText}
 use Rattle.row.specs.Writes.{Put, Wrote}
+use Rattle.run.proofs.Parts.{length-part, part-part}
 use Rattle.row.proofs.Decimals.{decimal-most}
 use Rattle.row.proofs.Puts.{then, from-front, rank-length, traded-length, figures-length, names-length, row-length}
 use Rattle.row.proofs.Trimming.{trimmed-most}

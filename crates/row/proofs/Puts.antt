@@ -7,11 +7,11 @@ use mathlib.Core.List.{List, [], _∷_, _++_}
 use lib.ListN.{length, length-append, take}
 use lib.Seq.{sets}
 use Rattle.field.specs.Number.{filled}
-use Rattle.field.proofs.Stores.{sets-append}
 use Rattle.order.specs.declared.Figures.{Figures}
 use Rattle.order.specs.declared.Order.{Order}
 use Rattle.row.specs.Texts.{decimal, trimmed, heading, rankText, tradedText, figuresText, namesText, orderText}
 use Rattle.row.specs.Writes.{Put, Wrote}
+use Rattle.run.proofs.Stores.{sets-append}
 use Rattle.row.proofs.Decimals.{decimal-filled}
 
 -- ---- puts

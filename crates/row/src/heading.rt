@@ -5,7 +5,6 @@ ghost use lib.ListN.{length};
 ghost use Rattle.row.specs.Texts.{heading as Texts·heading};
 ghost use Rattle.row.specs.Writes.{Wrote};
 use crate::decimal;
-use field::put;
 
 pub fn length(orders: u64, families: u64) -> usize
     ensures { λ r. ⌜ r ≡ length (Texts·heading orders families) ⌝ }
@@ -18,10 +17,10 @@ pub fn write(orders: u64, families: u64, out: &mut [u8]) -> usize
     requires { ⌜ length (Texts·heading orders families) ≤ length (now out) ⌝ }
     ensures { λ r. ⌜ Wrote (Texts·heading orders families) (now (out .entry)) (now (out .exit)) r ⌝ }
 {
-    put::run(out, 0, b"orders ");
+    run::store(out, 0, b"orders ");
     let mid = decimal::put_number(out, 7, orders);
-    put::run(out, mid, b" families ");
+    run::store(out, mid, b" families ");
     let end = decimal::put_number(out, mid + 10, families);
-    put::run(out, end, b"\n");
+    run::store(out, end, b"\n");
     end + 1
 }

@@ -10,7 +10,6 @@ ghost use Rattle.row.specs.Writes.{Put, Wrote};
 pub mod decimal;
 pub mod heading;
 
-use field::put;
 use order::Figures;
 use slot::HEADER;
 use slot::KEY;
@@ -33,7 +32,7 @@ fn put_rank(out: &mut [u8], at: usize, family: u64, rank: u64) -> usize
     ensures { λ r. ⌜ Put (rankText family rank) at (now (out .entry)) (now (out .exit)) r ⌝ }
 {
     let dot = decimal::put_number(out, at, family);
-    put::run(out, dot, b".");
+    run::store(out, dot, b".");
     decimal::put_number(out, dot + 1, rank)
 }
 
@@ -42,7 +41,7 @@ fn put_column(out: &mut [u8], at: usize, n: u64) -> usize
     requires { ⌜ at + length (column (decimal n)) ≤ length (now out) ⌝ }
     ensures { λ r. ⌜ Put (column (decimal n)) at (now (out .entry)) (now (out .exit)) r ⌝ }
 {
-    put::run(out, at, b" ");
+    run::store(out, at, b" ");
     decimal::put_number(out, at + 1, n)
 }
 
@@ -71,12 +70,12 @@ fn put_names(out: &mut [u8], at: usize, source: &[u8], token: &[u8]) -> usize
     ensures { λ r. ⌜ Put (namesText (now (source .entry)) (now (token .entry))) at (now (out .entry)) (now (out .exit)) r ⌝ }
 {
     let n = unpadded(token);
-    put::run(out, at, b" ");
-    put::run(out, at + 1, source);
+    run::store(out, at, b" ");
+    run::store(out, at + 1, source);
     let mid = at + 1 + source.len();
-    put::run(out, mid, b" ");
-    put::run(out, mid + 1, &token[0..n]);
-    put::run(out, mid + 1 + n, b"\n");
+    run::store(out, mid, b" ");
+    run::store(out, mid + 1, &token[0..n]);
+    run::store(out, mid + 1 + n, b"\n");
     mid + 2 + n
 }
 

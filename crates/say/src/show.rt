@@ -6,7 +6,7 @@ use field::put;
 fn put_run(text: &mut [u8], at: usize, s: &[u8]) {
     if at <= text.len() {
         if s.len() <= text.len() - at {
-            put::run(text, at, s);
+            run::store(text, at, s);
         }
     }
 }
@@ -51,7 +51,7 @@ fn counted(width: usize) -> usize
 // A record from its 138 bytes: every field in brackets, at its full width.
 pub fn record(b: &[u8]) {
     let mut text = [0u8; 256];
-    put::copy(
+    run::copy(
         &mut text,
         b" record 1[        ] 2[ ] 3[    ] 4[ ] 5[ ] 6[ ] 7[    ] 8[     ] 9[     ] 10[      ] 11[                    ] 12[                    ] 13[         ] 14[ ] 15[      ] 16[      ] 17[ ] 18[  ] 19[  ] 20[ ] 21[      ] 22[          ] 23[         ] 24[         ]",
     );

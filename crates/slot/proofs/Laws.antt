@@ -10,11 +10,11 @@ use borrow.Author.Tests.{ltb-true, ltb-false, eqb-true, eqb-false}
 use lib.Dec.{ltb, eqb}
 use lib.ListN.{length, getD, set, length-set}
 use lib.Seq.{sets, getD-take, getD-set-same, getD-set-other, ext-getD}
-use Rattle.cell.proofs.Laws.{part-before, part-after, part-whole, take-sets}
-use Rattle.layout.specs.Layout.{part}
+use Rattle.run.specs.Runs.{part}
 use Rattle.order.specs.declared.Order.{Order}
 use Rattle.slot.specs.Slots.{orderIn, slotBytes, Fits}
 use Rattle.slot.specs.Places.{slotAt, slot, ordersIn}
+use Rattle.run.proofs.Parts.{take-sets, part-before, part-after, part-whole}
 use Rattle.slot.proofs.Said.{length-slot, slot-says}
 
 -- ---- slots and header

@@ -5,8 +5,8 @@ use mathlib.Core.List.{List, [], _∷_, _++_}
 use lib.ListN.{length, length-append}
 use lib.Seq.{sets}
 use Rattle.cell.specs.Cells.{leBytes}
+use Rattle.run.proofs.Stores.{sets-append}
 use Rattle.cell.proofs.Laws.{length-le}
-use Rattle.field.proofs.Stores.{sets-append}
 use Rattle.order.specs.declared.Key.{Key}
 use Rattle.order.specs.declared.Order.{Order}
 use Rattle.order.specs.declared.Series.{Series}

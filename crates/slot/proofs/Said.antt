@@ -4,9 +4,9 @@ use mathlib.Core.Path.{_≡_, refl, ap, _∙_}
 use mathlib.Core.List.{List, [], _∷_, _++_, append-assoc}
 use lib.ListN.{length, getD, take, replicate, length-append}
 use lib.Seq.{take-at, drop-at, drop-append-add, getD-append-add}
+use Rattle.run.specs.Runs.{part}
 use Rattle.cell.specs.Cells.{le, leBytes}
 use Rattle.cell.proofs.Laws.{le-written}
-use Rattle.layout.specs.Layout.{part}
 use Rattle.order.specs.declared.Order.{Order}
 use Rattle.slot.specs.Slots.{figuresBytes, slotBytes, orderIn, Fits}
 

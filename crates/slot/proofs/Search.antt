@@ -6,15 +6,14 @@ use mathlib.Core.Path.{_≡_, refl, sym, _∙_}
 use mathlib.Core.Bool.{Bool, true, false, cond, _&&_, and-comm}
 use mathlib.Core.List.{List}
 use lib.ListN.{length}
-use Rattle.cell.proofs.Laws.{part-part}
-use Rattle.layout.specs.Layout.{part}
-use Rattle.layout.specs.Line.{same}
+use Rattle.run.specs.Runs.{part, same}
 use Rattle.order.specs.Names.{sameKey}
 use Rattle.order.specs.declared.Key.{Key}
 use Rattle.day.specs.History.{oneMore}
 use Rattle.day.specs.Machine.{place}
 use Rattle.slot.specs.Slots.{keyIn}
 use Rattle.slot.specs.Places.{slot, ordersIn}
+use Rattle.run.proofs.Parts.{part-part}
 
 -- ---- one slot: a is what the test of its Token answers, b that of its Source
 

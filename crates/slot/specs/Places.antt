@@ -1,7 +1,7 @@
 -- docs/LAYOUT.md, The lent table: the slots one after another, and the answer of a lookup by key.
 use Prim.Native.Nat.{ℕ, zero, suc, _+_, _*_}
 use mathlib.Core.List.{List, [], _∷_}
-use Rattle.layout.specs.Layout.{part}
+use Rattle.run.specs.Runs.{part}
 use Rattle.order.specs.declared.Order.{Order}
 use Rattle.slot.specs.Slots.{orderIn}
 use Rattle.slot.specs.declared.Place.{Place}

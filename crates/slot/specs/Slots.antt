@@ -5,9 +5,8 @@ use mathlib.Core.Bool.{Bool, true}
 use mathlib.Core.List.{List, [], _∷_, _++_}
 use lib.Dec.{ltb}
 use lib.ListN.{length, getD, replicate}
+use Rattle.run.specs.Runs.{part, all}
 use Rattle.cell.specs.Cells.{le, leBytes}
-use Rattle.field.specs.Byte.{all}
-use Rattle.layout.specs.Layout.{part}
 use Rattle.order.specs.declared.Figures.{Figures}
 use Rattle.order.specs.declared.Key.{Key}
 use Rattle.order.specs.declared.Order.{Order}

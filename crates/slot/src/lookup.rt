@@ -2,7 +2,7 @@
 ghost use Prim.Native.Nat.{_+_, _≤_};
 ghost use mathlib.Core.Path.{_≡_};
 ghost use lib.ListN.{length};
-ghost use Rattle.layout.specs.Layout.{part};
+ghost use Rattle.run.specs.Runs.{part};
 ghost use Rattle.order.specs.Names.{sameKey};
 ghost use Rattle.day.specs.Machine.{place};
 ghost use Rattle.slot.specs.Slots.{keyIn};
@@ -20,7 +20,7 @@ fn has_key(t: &[u8], at: usize, source: &[u8], token: &[u8]) -> bool
     requires { ⌜ length (now token) ≡ 20 ⌝ }
     ensures { λ r. ⌜ r ≡ sameKey (keyIn (part (now (t .entry)) at 80)) (record { source = now (source .entry); token = now (token .entry) }) ⌝ }
 {
-    cell::same(t, at + TOKEN, token) && cell::same(t, at, source)
+    run::same_at(t, at + TOKEN, token) && run::same_at(t, at, source)
 }
 
 // The earliest of the first n orders with the key made of two runs. Runs are lent, since a Key by value would be stored anew at each slot.

@@ -10,7 +10,6 @@ use crate::HEADER;
 use crate::KEY;
 use crate::SLOT;
 use crate::TOKEN;
-use field::put;
 use order::Figures;
 use order::Key;
 use order::Order;
@@ -22,9 +21,9 @@ fn key_in(b: &[u8]) -> Key
     ensures { λ r. ⌜ r ≡ keyIn (now (b .entry)) ⌝ }
 {
     let mut source = [0u8; 6];
-    put::copy(&mut source, &b[0..TOKEN]);
+    run::copy(&mut source, &b[0..TOKEN]);
     let mut token = [0u8; 20];
-    put::copy(&mut token, &b[TOKEN..KEY]);
+    run::copy(&mut token, &b[TOKEN..KEY]);
     Key { source, token }
 }
 
@@ -33,7 +32,7 @@ fn series_in(b: &[u8]) -> Series
     ensures { λ r. ⌜ r ≡ seriesIn (now (b .entry)) ⌝ }
 {
     let mut root = [0u8; 6];
-    put::copy(&mut root, &b[27..33]);
+    run::copy(&mut root, &b[27..33]);
     Series {
         root,
         month: b[33],

@@ -12,7 +12,6 @@ use crate::KEY;
 use crate::REST;
 use crate::SLOT;
 use crate::TOKEN;
-use field::put;
 use order::Figures;
 use order::Key;
 use order::Order;
@@ -23,9 +22,9 @@ fn put_key(t: &mut [u8], at: usize, k: Key)
     ensures { λ _. ⌜ now (t .exit) ≡ sets (now (t .entry)) at (keyBytes k) ⌝ }
 {
     let source = k.source;
-    put::run(t, at, &source);
+    run::store(t, at, &source);
     let token = k.token;
-    put::run(t, at + TOKEN, &token);
+    run::store(t, at + TOKEN, &token);
 }
 
 // The first nine bytes of a series. A function of its own, since the prover reads only so many facts of one.
@@ -34,8 +33,8 @@ fn put_expiry(t: &mut [u8], at: usize, s: Series)
     ensures { λ _. ⌜ now (t .exit) ≡ sets (now (t .entry)) at (expiryBytes s) ⌝ }
 {
     let root = s.root;
-    put::run(t, at, &root);
-    put::byte(t, at + 6, s.month);
+    run::store(t, at, &root);
+    run::byte(t, at + 6, s.month);
     cell::put(t, at + 7, 1, s.date);
     cell::put(t, at + 8, 1, s.year);
 }
@@ -45,7 +44,7 @@ fn put_series(t: &mut [u8], at: usize, s: Series)
     ensures { λ _. ⌜ now (t .exit) ≡ sets (now (t .entry)) at (seriesBytes s) ⌝ }
 {
     put_expiry(t, at, s);
-    put::byte(t, at + 9, s.denominator);
+    run::byte(t, at + 9, s.denominator);
     cell::put(t, at + 10, 4, s.strike);
 }
 
@@ -75,7 +74,7 @@ fn put_terms(t: &mut [u8], at: usize, o: Order)
     ensures { λ _. ⌜ now (t .exit) ≡ sets (now (t .entry)) at (termsBytes o) ⌝ }
 {
     put_key(t, at, o.key);
-    put::byte(t, at + KEY, o.side);
+    run::byte(t, at + KEY, o.side);
     put_series(t, at + 27, o.series);
     cell::put(t, at + 41, 8, o.price);
 }

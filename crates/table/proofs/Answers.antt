@@ -6,9 +6,7 @@ use mathlib.Core.List.{List}
 use borrow.Author.Tests.{lt-ltb, le-leb, lt-leb, eq-eqb, ne-eqb, not-true, not-false}
 use lib.Dec.{ltb, leb, eqb}
 use lib.ListN.{length, getD}
-use Rattle.cell.specs.Cells.{isZero}
-use Rattle.field.specs.Byte.{all}
-use Rattle.layout.specs.Layout.{part}
+use Rattle.run.specs.Runs.{part, all, isZero}
 use Rattle.order.specs.declared.Order.{Order}
 use Rattle.table.specs.Passing.{isMarked, elderFits}
 use Rattle.slot.specs.Slots.{orderIn}

@@ -8,8 +8,8 @@ use mathlib.Core.List.{List}
 use borrow.Author.Tests.{lt-ltb, le-ltb, eq-eqb, ne-eqb}
 use lib.ListN.{length}
 use lib.Seq.{sets}
+use Rattle.run.specs.Runs.{part}
 use Rattle.refusal.specs.declared.Refusal.the-variants.{NoRoom, Damaged, UnknownKey}
-use Rattle.layout.specs.Layout.{part}
 use Rattle.day.specs.Machine.{place}
 use Rattle.table.specs.Promises.{LooksUp, Copies}
 use Rattle.slot.specs.Slots.{keyIn}

@@ -8,11 +8,11 @@ use lib.Dec.{eqb}
 use borrow.Author.Tests.{lt-ltb, le-ltb, eq-eqb, ne-eqb}
 use lib.ListN.{length, getD, replicate}
 use lib.Seq.{sets, length-sets}
+use Rattle.run.specs.Runs.{part}
 use Rattle.refusal.specs.declared.Refusal.the-variants.{NoRoom, Damaged}
 use Rattle.cell.specs.Cells.{le}
-use Rattle.cell.proofs.Laws.{part-inside, part-whole, getD-part}
-use Rattle.layout.specs.Layout.{part}
 use Rattle.day.specs.Tables.{empty}
+use Rattle.run.proofs.Parts.{getD-part, part-whole, part-inside}
 use Rattle.day.proofs.Tables.{table-eq}
 use Rattle.table.specs.Promises.{Makes}
 use Rattle.slot.specs.Places.{ordersIn}

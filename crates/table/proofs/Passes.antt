@@ -8,11 +8,11 @@ use mathlib.Core.List.{List, [], _∷_, _++_, map-append}
 use borrow.Author.Tests.{leb-true, le-leb, eqb-true}
 use lib.Dec.{leb, eqb}
 use lib.ListN.{length, replicate}
-use Rattle.field.specs.Kept.{member}
-use Rattle.layout.proofs.Rules.{both, either}
+use Rattle.run.specs.Runs.{member}
 use Rattle.order.specs.declared.Order.{Order}
 use Rattle.day.specs.Damage.{eldersOf, openAt, undamaged}
 use Rattle.order.specs.Stored.{soundOrder}
+use Rattle.run.proofs.Tests.{both, either}
 use Rattle.day.proofs.Orders.{length-elders, sole-member}
 use Rattle.day.proofs.Undamaged.{Undamaged, apart, whole, behind}
 use Rattle.table.specs.Passing.{Marks, isMarked, roomIn, openIn, slotFits, elderFits}

@@ -8,11 +8,11 @@ use mathlib.Core.List.{List, [], _∷_, _++_}
 use borrow.Author.Tests.{leb-true, eqb-true, eq-eqb}
 use lib.Dec.{leb, eqb}
 use lib.ListN.{length}
-use Rattle.field.specs.Kept.{member}
-use Rattle.layout.proofs.Rules.{both}
+use Rattle.run.specs.Runs.{member}
 use Rattle.order.specs.declared.Order.{Order}
 use Rattle.day.specs.Damage.{allSound, earlier, unshared, openAt, closed}
 use Rattle.order.specs.Stored.{soundOrder}
+use Rattle.run.proofs.Tests.{both}
 use Rattle.day.proofs.Orders.{sole}
 use Rattle.table.specs.Passing.{openIn}
 use Rattle.slot.specs.Slots.{orderIn}

@@ -7,13 +7,11 @@ use mathlib.Core.List.{List}
 use borrow.Author.Tests.{ltb-true, leb-true}
 use lib.Dec.{ltb, leb}
 use lib.ListN.{length, getD}
-use Rattle.cell.specs.Cells.{isZero}
-use Rattle.field.specs.Byte.{all}
-use Rattle.layout.specs.Layout.{part}
-use Rattle.layout.proofs.Rules.{both}
+use Rattle.run.specs.Runs.{part, all, isZero}
 use Rattle.day.specs.Damage.{undamaged}
 use Rattle.slot.specs.Places.{slotAt}
 use Rattle.table.specs.Tables.{countIn, limitOf, tableIn, tailsZero, slotsSound, sound}
+use Rattle.run.proofs.Tests.{both}
 use Rattle.table.proofs.Limits.{slot-inside}
 
 slots-inside : (len n : ℕ) → 0 < limitOf len → n ≤ limitOf len → slotAt n ≤ len

@@ -5,10 +5,9 @@ use mathlib.Core.List.{List}
 use lib.Dec.{ltb, leb, eqb}
 use lib.ListN.{length, getD, replicate}
 use lib.Seq.{sets}
-use Rattle.cell.specs.Cells.{le, isZero}
-use Rattle.field.specs.Byte.{all}
+use Rattle.run.specs.Runs.{part, all, isZero}
+use Rattle.cell.specs.Cells.{le}
 use Rattle.refusal.specs.Answer.{Answer, value, refused}
-use Rattle.layout.specs.Layout.{part}
 use Rattle.day.specs.Damage.{undamaged}
 use Rattle.day.specs.Tables.{Table, empty, withOrders, withMark}
 use Rattle.slot.specs.Places.{slotAt, ordersIn}

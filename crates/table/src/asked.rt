@@ -4,7 +4,6 @@ use crate::Found;
 use crate::Made;
 use crate::damage;
 use crate::header;
-use field::put;
 use refusal::Refusal;
 use slot::HEADER;
 use slot::KEY;
@@ -47,6 +46,6 @@ pub fn copy_order(t: &[u8], i: usize, out: &mut [u8]) -> Made
         return Made::Refused(Refusal::UnknownKey);
     }
     let at = HEADER + SLOT * i;
-    put::run(out, 0, &t[at..at + SLOT]);
+    run::store(out, 0, &t[at..at + SLOT]);
     Made::Done
 }

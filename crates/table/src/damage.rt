@@ -17,7 +17,7 @@ fn sound_slot(t: &[u8], i: usize, o: Order) -> bool
     requires { ⌜ slotAt i + 80 ≤ length (now t) ⌝ }
     ensures { λ r. ⌜ r ≡ slotFits (now (t .entry)) i o ⌝ }
 {
-    cell::zeros(t, HEADER + SLOT * i + REST, 5) & order::sound_order(o)
+    run::zeros(t, HEADER + SLOT * i + REST, 5) & order::sound_order(o)
 }
 
 // The elder's slot is read only once it is known to be an earlier one.

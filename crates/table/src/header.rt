@@ -6,9 +6,8 @@ ghost use mathlib.Core.List.{[], _∷_};
 ghost use lib.Dec.{leb, eqb};
 ghost use lib.ListN.{length, getD, replicate};
 ghost use lib.Seq.{sets};
-ghost use Rattle.cell.specs.Cells.{leBytes, isZero};
-ghost use Rattle.field.specs.Byte.{all};
-ghost use Rattle.layout.specs.Layout.{part};
+ghost use Rattle.run.specs.Runs.{part, all, isZero};
+ghost use Rattle.cell.specs.Cells.{leBytes};
 ghost use Rattle.table.specs.Tables.{countIn, limitOf};
 use crate::LIMIT;
 use crate::TABLE;
@@ -54,7 +53,7 @@ pub fn sound_header(t: &[u8]) -> bool
     requires { ⌜ 8 ≤ length (now t) ⌝ }
     ensures { λ r. ⌜ r ≡ (leb (getD (now (t .entry)) 4 0) 1 && all isZero (part (now (t .entry)) 5 3)) ⌝ }
 {
-    (t[4] <= 1) & cell::zeros(t, 5, 3)
+    (t[4] <= 1) & run::zeros(t, 5, 3)
 }
 
 // The header of a table without orders, the day not over.

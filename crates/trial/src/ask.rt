@@ -2,7 +2,6 @@
 use crate::chunks;
 use crate::tables;
 use crate::texts;
-use field::kept;
 
 // The table in hand is the first len bytes of table. A case's last line ends here, whatever it says.
 pub fn case(kind: u8, s: &[u8], table: &mut [u8], len: &mut usize) {
@@ -30,7 +29,7 @@ fn answered(kind: u8, s: &[u8], table: &mut [u8], len: &mut usize) -> bool {
 }
 
 fn name(s: &[u8]) -> bool {
-    if kept::member(b'\n', s) {
+    if run::member(b'\n', s) {
         return false;
     }
     say::text(b"== ");

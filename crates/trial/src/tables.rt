@@ -1,6 +1,5 @@
 // The cases about the table in hand. Each tests what its payload says, so that nothing has to be shown of it.
 use crate::space;
-use field::put;
 
 // The table in hand is the first len bytes of table.
 pub fn case(kind: u8, s: &[u8], table: &mut [u8], len: &mut usize) -> bool {
@@ -31,7 +30,7 @@ fn take(s: &[u8], table: &mut [u8], len: &mut usize) -> bool {
     if table.len() < s.len() {
         return false;
     }
-    put::run(table, 0, s);
+    run::store(table, 0, s);
     *len = s.len();
     say::numbered(b"table ", s.len() as u64);
     say::sum(s);
@@ -49,7 +48,7 @@ fn patch(s: &[u8], t: &mut [u8]) -> bool {
     if t.len() - at < s.len() - 4 {
         return false;
     }
-    put::run(t, at, &s[4..]);
+    run::store(t, at, &s[4..]);
     say::text(b"patch");
     say::sum(t);
     true

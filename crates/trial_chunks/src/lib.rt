@@ -53,7 +53,7 @@ fn feed_good(
 fn any_zero(sizes: &[u8]) -> bool {
     let mut i = 0;
     while i < sizes.len() / 2 {
-        if cell::zeros(sizes, i * 2, 2) {
+        if run::zeros(sizes, i * 2, 2) {
             return true;
         }
         i += 1;

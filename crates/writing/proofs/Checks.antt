@@ -7,7 +7,7 @@ use borrow.Author.Tests.{eq-eqb, not-true, not-false}
 use lib.Dec.{eqb, leb, ltb, leb·zero}
 use lib.ListN.{length, drop}
 use lib.Seq.{drop-cons}
-use Rattle.field.specs.Kept.{member}
+use Rattle.run.specs.Runs.{member}
 use Rattle.field.specs.Kept.{kept as keptAnswer}
 use Rattle.field.specs.declared.Bytes.{Bytes}
 use Rattle.field.specs.declared.Bytes.the-variants.{Lawful, Unlawful}

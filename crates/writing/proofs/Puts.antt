@@ -4,13 +4,13 @@ use mathlib.Core.Path.{_≡_, refl, _∙_}
 use mathlib.Core.List.{List, _++_, append-assoc}
 use lib.ListN.{length, drop}
 use lib.Seq.{sets, drop-cons}
-use Rattle.field.proofs.Stores.{sets-append}
 use Rattle.layout.specs.Layout.{noRow, isTrade, tradeId, writeRows}
 use Rattle.layout.specs.Line.{crlf, rowsFor}
 use Rattle.layout.specs.Records.{fieldsOf, typeOf, tradeOf, matchOf, crossOf}
 use Rattle.layout.specs.Rule.{num, writes}
 use Rattle.layout.specs.declared.Event.{Event}
 use Rattle.layout.specs.declared.Record.{Record}
+use Rattle.run.proofs.Stores.{sets-append}
 use Rattle.record.proofs.Events.{by-event}
 use Rattle.writing.specs.Writes.{idText, lineFrom}
 use Rattle.writing.proofs.Fields.{rowFor, textFor}

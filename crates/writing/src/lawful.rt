@@ -18,10 +18,10 @@ pub fn check(r: Record) -> Checked
     let Bytes::Lawful = kept::text(&firm) else {
         return Checked::Unlawful(3);
     };
-    if !kept::member(r.capacity, &rule::CAPACITIES) {
+    if !run::member(r.capacity, &rule::CAPACITIES) {
         return Checked::Unlawful(4);
     }
-    if !kept::member(r.position, &rule::POSITIONS) {
+    if !run::member(r.position, &rule::POSITIONS) {
         return Checked::Unlawful(5);
     }
     let event = r.event;
@@ -73,7 +73,7 @@ fn order_fields(r: Record) -> Checked
     let Bytes::Lawful = kept::hex(&reference) else {
         return Checked::Unlawful(13);
     };
-    if !kept::member(r.side, &rule::SIDES) {
+    if !run::member(r.side, &rule::SIDES) {
         return Checked::Unlawful(14);
     }
     if !rule::within(r.contracts, rule::LEAST_CONTRACTS, rule::MOST_CONTRACTS) {
@@ -83,7 +83,7 @@ fn order_fields(r: Record) -> Checked
     let Bytes::Lawful = kept::text(&root) else {
         return Checked::Unlawful(16);
     };
-    if !kept::member(r.month, &rule::MONTHS) {
+    if !run::member(r.month, &rule::MONTHS) {
         return Checked::Unlawful(17);
     }
     price_fields(r)
@@ -99,7 +99,7 @@ fn price_fields(r: Record) -> Checked
     if !rule::within(r.year, 0, rule::LAST_YEAR) {
         return Checked::Unlawful(19);
     }
-    if !kept::member(r.denominator, &rule::DENOMINATORS) {
+    if !run::member(r.denominator, &rule::DENOMINATORS) {
         return Checked::Unlawful(20);
     }
     if !rule::strike(r.denominator, r.strike) {

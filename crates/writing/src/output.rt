@@ -35,7 +35,7 @@ fn id(out: &mut [u8], at: usize, trade: bool, v: u64)
         put::filled(out, at, 9, v, b' ');
         return;
     }
-    put::run(out, at, b"         ");
+    run::store(out, at, b"         ");
 }
 
 // Fields 1 to 6.
@@ -47,11 +47,11 @@ fn event_fields(r: Record, out: &mut [u8])
     let trade = record::trade_of(event);
     let firm = r.firm;
     put::filled(out, 0, 8, r.timestamp, b' ');
-    put::byte(out, 8, record::type_of(event));
-    put::run(out, 9, &firm);
-    put::byte(out, 13, r.capacity);
-    put::byte(out, 14, r.position);
-    put::byte(out, 15, trade.liquidity);
+    run::byte(out, 8, record::type_of(event));
+    run::store(out, 9, &firm);
+    run::byte(out, 13, r.capacity);
+    run::byte(out, 14, r.position);
+    run::byte(out, 15, trade.liquidity);
     account_fields(r, out);
 }
 
@@ -61,17 +61,17 @@ fn account_fields(r: Record, out: &mut [u8])
     ensures { λ _. ⌜ now (out .exit) ≡ sets (now (out .entry)) 16 (lineFrom 6 r) ⌝ }
 {
     let account = r.account;
-    put::run(out, 16, &account);
+    run::store(out, 16, &account);
     let member = r.member;
-    put::run(out, 20, &member);
+    run::store(out, 20, &member);
     let clearing = r.clearing;
-    put::run(out, 25, &clearing);
+    run::store(out, 25, &clearing);
     let source = r.source;
-    put::run(out, 30, &source);
+    run::store(out, 30, &source);
     let token = r.token;
-    put::run(out, 36, &token);
+    run::store(out, 36, &token);
     let replaced = r.replaced;
-    put::run(out, 56, &replaced);
+    run::store(out, 56, &replaced);
     order_fields(r, out);
 }
 
@@ -81,12 +81,12 @@ fn order_fields(r: Record, out: &mut [u8])
     ensures { λ _. ⌜ now (out .exit) ≡ sets (now (out .entry)) 76 (lineFrom 12 r) ⌝ }
 {
     let reference = r.reference;
-    put::run(out, 76, &reference);
-    put::byte(out, 85, r.side);
+    run::store(out, 76, &reference);
+    run::byte(out, 85, r.side);
     put::filled(out, 86, 6, r.contracts, b' ');
     let root = r.root;
-    put::run(out, 92, &root);
-    put::byte(out, 98, r.month);
+    run::store(out, 92, &root);
+    run::byte(out, 98, r.month);
     price_fields(r, out);
 }
 
@@ -97,7 +97,7 @@ fn price_fields(r: Record, out: &mut [u8])
 {
     put::filled(out, 99, 2, r.date, b'0');
     put::filled(out, 101, 2, r.year, b'0');
-    put::byte(out, 103, r.denominator);
+    run::byte(out, 103, r.denominator);
     put::filled(out, 104, 6, r.strike, b'0');
     put::price(out, 110, 10, r.price);
     trade_fields(r, out);
@@ -113,5 +113,5 @@ fn trade_fields(r: Record, out: &mut [u8])
     let on = rule::is_trade(record::type_of(event));
     id(out, 120, on, trade.match_id);
     id(out, 129, on, trade.cross_id);
-    put::run(out, rule::FIELDS, b"\r\n");
+    run::store(out, rule::FIELDS, b"\r\n");
 }

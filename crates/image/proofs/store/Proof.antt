@@ -6,17 +6,17 @@ use Rattle.image.proofs.Stores.{said-length, image-stored}
 use Rattle.image.proofs.store.Statement.{statement}
 use Rattle.image.proofs.store.Tie as tie
 
-sub-run : tie.Need-sub-run
-sub-run c = search needs
+sub-store : tie.Need-sub-store
+sub-store c = search needs
 
-part-run-start : tie.Need-part-run-start
-part-run-start c = search needs
+part-store-start : tie.Need-part-store-start
+part-store-start c = search needs
 
-part-run-end : tie.Need-part-run-end
-part-run-end c = let start = c .before .before .before in omega (arith, said-length (now (start .args .piece)) (start .args .r) (start .pre .0))
+part-store-end : tie.Need-part-store-end
+part-store-end c = let start = c .before .before .before in omega (arith, said-length (now (start .args .piece)) (start .args .r) (start .pre .0))
 
-run-requires : tie.Need-run-requires
-run-requires c κs = search needs
+store-requires : tie.Need-store-requires
+store-requires c κs = search needs
 
 put-early-requires : tie.Need-put-early-requires
 put-early-requires c κs = search needs
@@ -41,16 +41,16 @@ returns c =
     let early = late .before .before .before .before in
     let first = early .before .before .before .before in
     let start = first .before .before .before .before .before in
-    image-stored (now (start .args .piece)) (now (start .args .out)) (start .args .r) _ _ _ _ _ (start .pre .0) (start .pre .1) (first .run .ensures) (early .put-early .ensures) (late .put-late .ensures) (trade .trade-of .ensures) (ids .put-ids .ensures)
+    image-stored (now (start .args .piece)) (now (start .args .out)) (start .args .r) _ _ _ _ _ (start .pre .0) (start .pre .1) (first .store .ensures) (early .put-early .ensures) (late .put-late .ensures) (trade .trade-of .ensures) (ids .put-ids .ensures)
 
 pub store-spec : {M : Type 1} → statement M
 store-spec =
     tie.close
     (tie.spec
-    sub-run
-    part-run-start
-    part-run-end
-    run-requires
+    sub-store
+    part-store-start
+    part-store-end
+    store-requires
     put-early-requires
     put-late-requires
     trade-of-requires

@@ -6,11 +6,11 @@ use Rattle.row.proofs.Puts.{run-put, then}
 use Rattle.row.proofs.put_column.Statement.{statement}
 use Rattle.row.proofs.put_column.Tie as tie
 
-slice-aggregate-run : tie.Need-slice-aggregate-run
-slice-aggregate-run c = search needs
+slice-aggregate-store : tie.Need-slice-aggregate-store
+slice-aggregate-store c = search needs
 
-run-requires : tie.Need-run-requires
-run-requires c κs = search needs
+store-requires : tie.Need-store-requires
+store-requires c κs = search needs
 
 add-put-number : tie.Need-add-put-number
 add-put-number c = search needs
@@ -24,15 +24,15 @@ same-length c = search needs
 returns : tie.Need-returns
 returns c =
     let a = c .before .before .before .before .before .before .before .before .before .before .args in
-    let space = run-put {before = now (a .out)} {at = a .at} (32 ∷ []) (c .before .before .before .before .before .before .run .ensures) in
+    let space = run-put {before = now (a .out)} {at = a .at} (32 ∷ []) (c .before .before .before .before .before .before .store .ensures) in
     then space (c .before .before .put-number .ensures)
 
 pub put-column-spec : {M : Type 1} → statement M
 put-column-spec =
     tie.close
     (tie.spec
-    slice-aggregate-run
-    run-requires
+    slice-aggregate-store
+    store-requires
     add-put-number
     put-number-requires
     same-length

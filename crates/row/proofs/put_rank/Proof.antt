@@ -9,11 +9,11 @@ use Rattle.row.proofs.put_rank.Tie as tie
 put-number-requires : tie.Need-put-number-requires
 put-number-requires c κs = let a = c .before .before .args in omega (arith, rank-length (a .family) (a .rank))
 
-slice-aggregate-run : tie.Need-slice-aggregate-run
-slice-aggregate-run c = search needs
+slice-aggregate-store : tie.Need-slice-aggregate-store
+slice-aggregate-store c = search needs
 
-run-requires : tie.Need-run-requires
-run-requires c κs = let a = c .before .before .before .before .before .before .before .args in omega (arith, rank-length (a .family) (a .rank))
+store-requires : tie.Need-store-requires
+store-requires c κs = let a = c .before .before .before .before .before .before .before .args in omega (arith, rank-length (a .family) (a .rank))
 
 add-put-number : tie.Need-add-put-number
 add-put-number c = let a = c .before .before .before .before .before .before .before .before .before .before .before .args in search (needs, rank-length (a .family) (a .rank))
@@ -28,15 +28,15 @@ returns : tie.Need-returns
 returns c =
     let family = c .before .before .before .before .before .before .before .before .before .before .before .put-number in
     let rank = c .before .before .put-number2 in
-    then (family .ensures) (then (run-put (46 ∷ []) (c .before .before .before .before .before .before .run .ensures)) (rank .ensures))
+    then (family .ensures) (then (run-put (46 ∷ []) (c .before .before .before .before .before .before .store .ensures)) (rank .ensures))
 
 pub put-rank-spec : {M : Type 1} → statement M
 put-rank-spec =
     tie.close
     (tie.spec
     put-number-requires
-    slice-aggregate-run
-    run-requires
+    slice-aggregate-store
+    store-requires
     add-put-number
     put-number-requires-2
     same-length

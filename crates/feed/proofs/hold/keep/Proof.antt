@@ -10,17 +10,17 @@ use Rattle.feed.proofs.hold.keep.Tie as tie
 sub-room : tie.Need-sub-room
 sub-room c = search needs
 
-sub-run : tie.Need-sub-run
-sub-run c = search needs
+sub-store : tie.Need-sub-store
+sub-store c = search needs
 
-part-run-start : tie.Need-part-run-start
-part-run-start c = search needs
+part-store-start : tie.Need-part-store-start
+part-store-start c = search needs
 
-part-run-end : tie.Need-part-run-end
-part-run-end c = ⊎-elim (λ w. omega arith) (λ w. omega arith) (c .before .before .if1 .came)
+part-store-end : tie.Need-part-store-end
+part-store-end c = ⊎-elim (λ w. omega arith) (λ w. omega arith) (c .before .before .if1 .came)
 
-run-requires : tie.Need-run-requires
-run-requires c κs =
+store-requires : tie.Need-store-requires
+store-requires c κs =
     let x = c .before .before .before .if1 in
     let a = c .before .before .before .before .before .before .args in
     keep-fits (now (a .hold)) (now (a .part)) (a .held) (x .n) (search needs) (search needs)
@@ -37,17 +37,17 @@ returns c =
     let x = c .before .before .before .before .before .before .if1 in
     let a = c .before .before .before .before .before .before .before .before .before .args in
     keeps (now (a .hold)) (now (a .part)) (a .held) (x .n) (search needs) (search needs)
-    (⊎-elim (λ w. inl (omega arith, omega arith)) (λ w. inr (omega arith, omega arith)) (x .came)) _ (c .before .before .run .ensures)
+    (⊎-elim (λ w. inl (omega arith, omega arith)) (λ w. inr (omega arith, omega arith)) (x .came)) _ (c .before .before .store .ensures)
 
 pub keep-spec : {M : Type 1} → statement M
 keep-spec =
     tie.close
     (tie.spec
     sub-room
-    sub-run
-    part-run-start
-    part-run-end
-    run-requires
+    sub-store
+    part-store-start
+    part-store-end
+    store-requires
     add-result
     same-length
     returns)

@@ -19,11 +19,11 @@ returns c =
     let others : List ℕ = 0 ∷ 1 ∷ 3 ∷ 4 ∷ 5 ∷ 6 ∷ 7 ∷ 8 ∷ 9 ∷ 10 ∷ 11 ∷ [] in
     other-put (a .x) (a .at) (now (a .out)) (λ f e. miss others 2 tt (rw e at (c .match .keys2)))
 
-slice-aggregate-run : tie.Need-slice-aggregate-run
-slice-aggregate-run c = search needs
+slice-aggregate-store : tie.Need-slice-aggregate-store
+slice-aggregate-store c = search needs
 
-run-requires : tie.Need-run-requires
-run-requires c κs = search needs
+store-requires : tie.Need-store-requires
+store-requires c κs = search needs
 
 add-put-number : tie.Need-add-put-number
 add-put-number c = search needs
@@ -40,7 +40,7 @@ same-length c = search needs
 returns-2 : tie.Need-returns-2
 returns-2 c =
     let a = c .before .before .before .before .before .before .before .before .before .before .before .before .before .args in
-    field-put (a .x) (c .before .before .before .before .before .before .before .before .before .before .x .given .0 .0) (a .at) (now (a .out)) _ _ _ (c .before .before .before .before .before .before .before .before .before .before .x .given .1) (c .before .before .before .before .before .before .run .ensures) (c .before .before .put-number .ensures)
+    field-put (a .x) (c .before .before .before .before .before .before .before .before .before .before .x .given .0 .0) (a .at) (now (a .out)) _ _ _ (c .before .before .before .before .before .before .before .before .before .before .x .given .1) (c .before .before .before .before .before .before .store .ensures) (c .before .before .put-number .ensures)
 
 pub put-field-spec : {M : Type 1} → statement M
 put-field-spec =
@@ -48,8 +48,8 @@ put-field-spec =
     (tie.spec
     enum-known-x
     returns
-    slice-aggregate-run
-    run-requires
+    slice-aggregate-store
+    store-requires
     add-put-number
     cast-put-number
     put-number-requires

@@ -13,20 +13,20 @@ use Rattle.feed.proofs.Reporting.{short}
 use Rattle.feed.proofs.report.refused.Statement.{statement}
 use Rattle.feed.proofs.report.refused.Tie as tie
 
-slice-aggregate-run : tie.Need-slice-aggregate-run
-slice-aggregate-run c = search needs
+slice-aggregate-store : tie.Need-slice-aggregate-store
+slice-aggregate-store c = search needs
 
-run-requires : tie.Need-run-requires
-run-requires c κs = search needs
+store-requires : tie.Need-store-requires
+store-requires c κs = search needs
 
 put-number-requires : tie.Need-put-number-requires
 put-number-requires c κs = omega (arith, decimal-most (c .before .before .before .before .before .before .before .args .line))
 
-slice-aggregate-run-2 : tie.Need-slice-aggregate-run-2
-slice-aggregate-run-2 c = search needs
+slice-aggregate-store-2 : tie.Need-slice-aggregate-store-2
+slice-aggregate-store-2 c = search needs
 
-run-requires-2 : tie.Need-run-requires-2
-run-requires-2 c κs = omega (arith, decimal-most (c .before .before .before .before .before .before .before .before .before .before .before .before .args .line))
+store-requires-2 : tie.Need-store-requires-2
+store-requires-2 c κs = omega (arith, decimal-most (c .before .before .before .before .before .before .before .before .before .before .before .before .args .line))
 
 add-put-number : tie.Need-add-put-number
 add-put-number c = search (needs, decimal-most (c .before .before .before .before .before .before .before .before .before .before .before .before .before .before .before .before .args .line))
@@ -49,11 +49,11 @@ put-field-requires c κs =
     omega
     (arith, decimal-most (a .line), short (a .x) (c .before .before .before .before .before .before .before .before .before .before .before .before .before .before .before .before .before .before .before .before .before .good .1 .0), ap (λ n. length (decimal n)) (c .before .before .before .before .number .ensures), c .before .before .before .before .before .before .before .before .before .before .before .before .before .put-number .ensures .end, c .before .before .before .put-number2 .ensures .end)
 
-slice-aggregate-run-3 : tie.Need-slice-aggregate-run-3
-slice-aggregate-run-3 c = search needs
+slice-aggregate-store-3 : tie.Need-slice-aggregate-store-3
+slice-aggregate-store-3 c = search needs
 
-run-requires-3 : tie.Need-run-requires-3
-run-requires-3 c κs =
+store-requires-3 : tie.Need-store-requires-3
+store-requires-3 c κs =
     let a = c .before .before .before .before .before .before .before .before .before .before .before .before .before .before .before .before .before .before .before .before .before .before .before .before .before .before .args in
     omega
     (arith, decimal-most (a .line), short (a .x) (c .before .before .before .before .before .before .before .before .before .before .before .before .before .before .before .before .before .before .before .before .before .before .before .before .before .before .good .1 .0), ap (λ n. length (decimal n)) (c .before .before .before .before .before .before .before .before .before .number .ensures), c .before .before .before .before .before .before .before .before .before .before .before .before .before .before .before .before .before .before .put-number .ensures .end, c .before .before .before .before .before .before .before .before .put-number2 .ensures .end, c .before .before .before .before .put-field .ensures .end)
@@ -69,28 +69,28 @@ same-length c = search needs
 
 returns : tie.Need-returns
 returns c =
-    let first = run-put {before = now (c .before .before .before .before .before .before .before .before .before .before .before .before .before .before .before .before .before .before .before .before .before .before .before .before .before .before .before .before .before .args .out)} {at = 0} lineWord (c .before .before .before .before .before .before .before .before .before .before .before .before .before .before .before .before .before .before .before .before .before .before .before .before .before .run .ensures) in
+    let first = run-put {before = now (c .before .before .before .before .before .before .before .before .before .before .before .before .before .before .before .before .before .before .before .before .before .before .before .before .before .before .before .before .before .args .out)} {at = 0} lineWord (c .before .before .before .before .before .before .before .before .before .before .before .before .before .before .before .before .before .before .before .before .before .before .before .before .before .store .ensures) in
     let line = c .before .before .before .before .before .before .before .before .before .before .before .before .before .before .before .before .before .before .before .before .before .put-number in
-    let second = run-put {at = line .result} refusedWord (c .before .before .before .before .before .before .before .before .before .before .before .before .before .before .before .before .run2 .ensures) in
-    let last = run-put {at = c .before .before .before .before .before .before .before .put-field .result} (10 ∷ []) (c .before .before .run3 .ensures) in
+    let second = run-put {at = line .result} refusedWord (c .before .before .before .before .before .before .before .before .before .before .before .before .before .before .before .before .store2 .ensures) in
+    let last = run-put {at = c .before .before .before .before .before .before .before .put-field .result} (10 ∷ []) (c .before .before .store3 .ensures) in
     from-front (then (then (then (then (then first (line .ensures)) second) (rw (c .before .before .before .before .before .before .before .before .before .before .before .before .number .ensures) at (c .before .before .before .before .before .before .before .before .before .before .before .put-number2 .ensures))) (c .before .before .before .before .before .before .before .put-field .ensures)) last)
 
 pub refused-spec : {M : Type 1} → statement M
 refused-spec =
     tie.close
     (tie.spec
-    slice-aggregate-run
-    run-requires
+    slice-aggregate-store
+    store-requires
     put-number-requires
-    slice-aggregate-run-2
-    run-requires-2
+    slice-aggregate-store-2
+    store-requires-2
     add-put-number
     number-requires
     cast-put-number
     put-number-requires-2
     put-field-requires
-    slice-aggregate-run-3
-    run-requires-3
+    slice-aggregate-store-3
+    store-requires-3
     add-result
     same-length
     returns)

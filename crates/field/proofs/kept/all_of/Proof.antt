@@ -4,8 +4,9 @@ use mathlib.Core.Path.{_≡_}
 use mathlib.Core.Bool.{_&&_}
 use borrow.Author.Needs.{needs}
 use lib.ListN.{length, drop}
-use Rattle.field.specs.Byte.{isOf, all}
-use Rattle.field.proofs.Scan.{all-next, all-end}
+use Rattle.run.specs.Runs.{all}
+use Rattle.field.specs.Byte.{isOf}
+use Rattle.run.proofs.Scan.{all-next, all-end}
 use Rattle.field.proofs.kept.all_of.Statement.{statement}
 use Rattle.field.proofs.kept.all_of.Tie as tie
 

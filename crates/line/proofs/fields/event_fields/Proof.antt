@@ -7,11 +7,12 @@ use borrow.Author.Needs.{needs}
 use denote.Ref.{now}
 use lib.Dec.{lit<}
 use lib.ListN.{getD}
+use Rattle.run.specs.Runs.{part}
 use Rattle.layout.specs.Layout.{isTrade}
 use Rattle.rule.specs.ByType.{keptOn}
 use Rattle.line.specs.Groups.{readingFrom, noNumbers}
 use Rattle.layout.specs.Rule.{number, code, text}
-use Rattle.layout.specs.Layout.{part, types, capacities, positions, liquidities}
+use Rattle.layout.specs.Layout.{types, capacities, positions, liquidities}
 use Rattle.field.specs.Number.{number as readNumber}
 use Rattle.layout.specs.declared.Numbers.{Numbers}
 use Rattle.line.specs.declared.Reading.{Reading}

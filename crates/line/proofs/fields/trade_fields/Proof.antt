@@ -7,10 +7,10 @@ use borrow.Author.Needs.{needs}
 use denote.Ref.{now}
 use lib.Dec.{lit<}
 use lib.ListN.{getD}
+use Rattle.run.specs.Runs.{part}
 use Rattle.layout.specs.Layout.{isTrade}
 use Rattle.rule.specs.ByType.{idOn}
 use Rattle.line.specs.Groups.{readingFrom}
-use Rattle.layout.specs.Layout.{part}
 use Rattle.layout.specs.declared.Numbers.{Numbers}
 use Rattle.line.specs.declared.Reading.{Reading}
 use Rattle.line.proofs.Whole.{all-read}

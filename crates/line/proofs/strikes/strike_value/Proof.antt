@@ -4,7 +4,7 @@ use mathlib.Core.Bool.{true}
 use native.Mathlib.Omega.{arith}
 use borrow.Author.Tests.{not-true, not-false}
 use borrow.Author.Needs.{needs}
-use Rattle.field.specs.Kept.{member}
+use Rattle.run.specs.Runs.{member}
 use Rattle.layout.specs.Layout.{denominators}
 use Rattle.layout.specs.Strikes.{lawfulStrike, strikeValue}
 use Rattle.line.proofs.Forms.{value-most}

@@ -4,8 +4,8 @@ use mathlib.Core.Path.{ap, sym, _∙_}
 use borrow.Author.Needs.{needs}
 use denote.Ref.{now}
 use Rattle.cell.specs.Cells.{le}
-use Rattle.cell.proofs.Laws.{part-part}
 use Rattle.slot.specs.Places.{slotAt}
+use Rattle.run.proofs.Parts.{part-part}
 use Rattle.slot.proofs.read.elder_at.Statement.{statement}
 use Rattle.slot.proofs.read.elder_at.Tie as tie
 

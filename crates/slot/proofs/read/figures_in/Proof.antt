@@ -4,8 +4,8 @@ use mathlib.Core.Path.{_≡_}
 use mathlib.Core.List.{List}
 use borrow.Author.Needs.{needs}
 use denote.Ref.{now}
+use Rattle.run.specs.Runs.{part}
 use Rattle.cell.specs.Cells.{le}
-use Rattle.layout.specs.Layout.{part}
 use Rattle.order.specs.declared.Figures.{Figures}
 use Rattle.slot.specs.Slots.{figuresIn}
 use Rattle.slot.proofs.read.figures_in.Statement.{statement}

@@ -7,11 +7,11 @@ use Rattle.slot.proofs.Runs.{Stored, byte, number, then}
 use Rattle.slot.proofs.write.put_expiry.Statement.{statement}
 use Rattle.slot.proofs.write.put_expiry.Tie as tie
 
-slice-aggregate-run : tie.Need-slice-aggregate-run
-slice-aggregate-run c = search needs
+slice-aggregate-store : tie.Need-slice-aggregate-store
+slice-aggregate-store c = search needs
 
-run-requires : tie.Need-run-requires
-run-requires c κs =
+store-requires : tie.Need-store-requires
+store-requires c κs =
     let wide : length (c .before .before .before .before .args .s .root) ≡ 6 = search needs in
     omega arith
 
@@ -44,7 +44,7 @@ returns c =
     let third = fourth .before .before .before .before in
     let second = third .before .before .before .before in
     let first = second .before .before .before .before in
-    let root : Stored _ _ 6 (s .root) _ = record { wide = wide; stored = first .run .ensures } in
+    let root : Stored _ _ 6 (s .root) _ = record { wide = wide; stored = first .store .ensures } in
     let month = byte (s .month) (second .byte .ensures) in
     let date = number 1 (s .date) (third .put .ensures) in
     let year = number 1 (s .year) (fourth .put2 .ensures) in
@@ -54,8 +54,8 @@ pub put-expiry-spec : {M : Type 1} → statement M
 put-expiry-spec =
     tie.close
     (tie.spec
-    slice-aggregate-run
-    run-requires
+    slice-aggregate-store
+    store-requires
     add-byte
     byte-requires
     add-put

@@ -43,20 +43,20 @@ mul-at c = omega (arith, inside c)
 add-at : tie.Need-add-at
 add-at c = omega (arith, inside c)
 
-add-run : tie.Need-add-run
-add-run c = omega (arith, inside (c .before))
+add-store : tie.Need-add-store
+add-store c = omega (arith, inside (c .before))
 
-sub-run : tie.Need-sub-run
-sub-run c = search needs
+sub-store : tie.Need-sub-store
+sub-store c = search needs
 
-part-run-start : tie.Need-part-run-start
-part-run-start c = search needs
+part-store-start : tie.Need-part-store-start
+part-store-start c = search needs
 
-part-run-end : tie.Need-part-run-end
-part-run-end c = omega (arith, inside (c .before))
+part-store-end : tie.Need-part-store-end
+part-store-end c = omega (arith, inside (c .before))
 
-run-requires : tie.Need-run-requires
-run-requires c κs = search needs
+store-requires : tie.Need-store-requires
+store-requires c κs = search needs
 
 same-length : tie.Need-same-length
 same-length c = search needs
@@ -65,7 +65,7 @@ returns-4 : tie.Need-returns-4
 returns-4 c =
     let a = c .before .before .before .before .before .before .before .before .before .before .before .before .args in
     copied (now (a .t)) (a .i) (now (a .out)) (sym (c .before .before .before .before .before .before .before .before .before .is-sound .ensures) ∙ not-false _ (c .before .before .before .before .before .before .before .before .if1 .left)) (search needs)
-    (omega (arith, c .before .before .before .before .before .before .count .ensures)) _ (c .before .before .run .ensures)
+    (omega (arith, c .before .before .before .before .before .before .count .ensures)) _ (c .before .before .store .ensures)
 
 pub copy-order-spec : {M : Type 1} → statement M
 copy-order-spec =
@@ -78,10 +78,10 @@ copy-order-spec =
     returns-3
     mul-at
     add-at
-    add-run
-    sub-run
-    part-run-start
-    part-run-end
-    run-requires
+    add-store
+    sub-store
+    part-store-start
+    part-store-end
+    store-requires
     same-length
     returns-4)

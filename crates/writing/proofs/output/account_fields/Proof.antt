@@ -11,41 +11,41 @@ use Rattle.writing.proofs.output.account_fields.Tie as tie
 sized : (c : tie.Start) → Sized (c .args .r)
 sized c = search needs
 
-slice-aggregate-run : tie.Need-slice-aggregate-run
-slice-aggregate-run c = search needs
+slice-aggregate-store : tie.Need-slice-aggregate-store
+slice-aggregate-store c = search needs
 
-run-requires : tie.Need-run-requires
-run-requires c κs = omega (arith, sized (c .before .before .before .before) .account)
+store-requires : tie.Need-store-requires
+store-requires c κs = omega (arith, sized (c .before .before .before .before) .account)
 
-slice-aggregate-run-2 : tie.Need-slice-aggregate-run-2
-slice-aggregate-run-2 c = search needs
+slice-aggregate-store-2 : tie.Need-slice-aggregate-store-2
+slice-aggregate-store-2 c = search needs
 
-run-requires-2 : tie.Need-run-requires-2
-run-requires-2 c κs = omega (arith, sized (c .before .before .before .before .before .before .before .before .before .before) .member)
+store-requires-2 : tie.Need-store-requires-2
+store-requires-2 c κs = omega (arith, sized (c .before .before .before .before .before .before .before .before .before .before) .member)
 
-slice-aggregate-run-3 : tie.Need-slice-aggregate-run-3
-slice-aggregate-run-3 c = search needs
+slice-aggregate-store-3 : tie.Need-slice-aggregate-store-3
+slice-aggregate-store-3 c = search needs
 
-run-requires-3 : tie.Need-run-requires-3
-run-requires-3 c κs = omega (arith, sized (c .before .before .before .before .before .before .before .before .before .before .before .before .before .before .before .before) .clearing)
+store-requires-3 : tie.Need-store-requires-3
+store-requires-3 c κs = omega (arith, sized (c .before .before .before .before .before .before .before .before .before .before .before .before .before .before .before .before) .clearing)
 
-slice-aggregate-run-4 : tie.Need-slice-aggregate-run-4
-slice-aggregate-run-4 c = search needs
+slice-aggregate-store-4 : tie.Need-slice-aggregate-store-4
+slice-aggregate-store-4 c = search needs
 
-run-requires-4 : tie.Need-run-requires-4
-run-requires-4 c κs = omega (arith, sized (c .before .before .before .before .before .before .before .before .before .before .before .before .before .before .before .before .before .before .before .before .before .before) .source)
+store-requires-4 : tie.Need-store-requires-4
+store-requires-4 c κs = omega (arith, sized (c .before .before .before .before .before .before .before .before .before .before .before .before .before .before .before .before .before .before .before .before .before .before) .source)
 
-slice-aggregate-run-5 : tie.Need-slice-aggregate-run-5
-slice-aggregate-run-5 c = sym (sized (c .before .before .before .before .before .before .before .before .before .before .before .before .before .before .before .before .before .before .before .before .before .before .before .before .before .before .before .before) .token)
+slice-aggregate-store-5 : tie.Need-slice-aggregate-store-5
+slice-aggregate-store-5 c = sym (sized (c .before .before .before .before .before .before .before .before .before .before .before .before .before .before .before .before .before .before .before .before .before .before .before .before .before .before .before .before) .token)
 
-run-requires-5 : tie.Need-run-requires-5
-run-requires-5 c κs = omega (arith, sized (c .before .before .before .before .before .before .before .before .before .before .before .before .before .before .before .before .before .before .before .before .before .before .before .before .before .before .before .before) .token)
+store-requires-5 : tie.Need-store-requires-5
+store-requires-5 c κs = omega (arith, sized (c .before .before .before .before .before .before .before .before .before .before .before .before .before .before .before .before .before .before .before .before .before .before .before .before .before .before .before .before) .token)
 
-slice-aggregate-run-6 : tie.Need-slice-aggregate-run-6
-slice-aggregate-run-6 c = sym (sized (c .before .before .before .before .before .before .before .before .before .before .before .before .before .before .before .before .before .before .before .before .before .before .before .before .before .before .before .before .before .before .before .before .before .before) .replaced)
+slice-aggregate-store-6 : tie.Need-slice-aggregate-store-6
+slice-aggregate-store-6 c = sym (sized (c .before .before .before .before .before .before .before .before .before .before .before .before .before .before .before .before .before .before .before .before .before .before .before .before .before .before .before .before .before .before .before .before .before .before) .replaced)
 
-run-requires-6 : tie.Need-run-requires-6
-run-requires-6 c κs = omega (arith, sized (c .before .before .before .before .before .before .before .before .before .before .before .before .before .before .before .before .before .before .before .before .before .before .before .before .before .before .before .before .before .before .before .before .before .before) .replaced)
+store-requires-6 : tie.Need-store-requires-6
+store-requires-6 c κs = omega (arith, sized (c .before .before .before .before .before .before .before .before .before .before .before .before .before .before .before .before .before .before .before .before .before .before .before .before .before .before .before .before .before .before .before .before .before .before) .replaced)
 
 order-fields-requires : tie.Need-order-fields-requires
 order-fields-requires c κs = omega (arith, c .before .before .before .before .before .before .before .before .before .before .before .before .before .before .before .before .before .before .before .before .before .before .before .before .before .before .before .before .before .before .before .before .before .before .before .before .before .before .pre)
@@ -63,30 +63,30 @@ returns c =
     let c8 = c9 .before .before .before .before .before .before in
     let c7 = c8 .before .before .before .before .before .before in
     let s = c7 .before .before .before .before .before in
-    field-then 6 (s .args .r) _ _ (lit< tt) (refl, sized s .account) (c7 .run .ensures)
-    (field-then 7 (s .args .r) _ _ (lit< tt) (refl, sized s .member) (c8 .run2 .ensures)
-    (field-then 8 (s .args .r) _ _ (lit< tt) (refl, sized s .clearing) (c9 .run3 .ensures)
-    (field-then 9 (s .args .r) _ _ (lit< tt) (refl, sized s .source) (c10 .run4 .ensures)
-    (field-then 10 (s .args .r) _ _ (lit< tt) (refl, sized s .token) (c11 .run5 .ensures)
-    (field-then 11 (s .args .r) _ _ (lit< tt) (refl, sized s .replaced) (c12 .run6 .ensures)
+    field-then 6 (s .args .r) _ _ (lit< tt) (refl, sized s .account) (c7 .store .ensures)
+    (field-then 7 (s .args .r) _ _ (lit< tt) (refl, sized s .member) (c8 .store2 .ensures)
+    (field-then 8 (s .args .r) _ _ (lit< tt) (refl, sized s .clearing) (c9 .store3 .ensures)
+    (field-then 9 (s .args .r) _ _ (lit< tt) (refl, sized s .source) (c10 .store4 .ensures)
+    (field-then 10 (s .args .r) _ _ (lit< tt) (refl, sized s .token) (c11 .store5 .ensures)
+    (field-then 11 (s .args .r) _ _ (lit< tt) (refl, sized s .replaced) (c12 .store6 .ensures)
     (d .order-fields .ensures))))))
 
 pub account-fields-spec : {M : Type 1} → statement M
 account-fields-spec =
     tie.close
     (tie.spec
-    slice-aggregate-run
-    run-requires
-    slice-aggregate-run-2
-    run-requires-2
-    slice-aggregate-run-3
-    run-requires-3
-    slice-aggregate-run-4
-    run-requires-4
-    slice-aggregate-run-5
-    run-requires-5
-    slice-aggregate-run-6
-    run-requires-6
+    slice-aggregate-store
+    store-requires
+    slice-aggregate-store-2
+    store-requires-2
+    slice-aggregate-store-3
+    store-requires-3
+    slice-aggregate-store-4
+    store-requires-4
+    slice-aggregate-store-5
+    store-requires-5
+    slice-aggregate-store-6
+    store-requires-6
     order-fields-requires
     same-length
     returns)

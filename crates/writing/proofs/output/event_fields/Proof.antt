@@ -24,11 +24,11 @@ type-of-requires c κs = search needs
 byte-requires : tie.Need-byte-requires
 byte-requires c κs = search needs
 
-slice-aggregate-run : tie.Need-slice-aggregate-run
-slice-aggregate-run c = search needs
+slice-aggregate-store : tie.Need-slice-aggregate-store
+slice-aggregate-store c = search needs
 
-run-requires : tie.Need-run-requires
-run-requires c κs = omega (arith, sized (c .before .before .before .before .before .before .before .before .before .before .before .before .before .before) .firm)
+store-requires : tie.Need-store-requires
+store-requires c κs = omega (arith, sized (c .before .before .before .before .before .before .before .before .before .before .before .before .before .before) .firm)
 
 byte-requires-2 : tie.Need-byte-requires-2
 byte-requires-2 c κs = search needs
@@ -59,7 +59,7 @@ returns c =
     let s = e .before .before in
     field-then 0 (s .args .r) _ _ (lit< tt) (refl, refl) (c1 .filled .ensures)
     (field-then 1 (s .args .r) _ _ (lit< tt) (refl, refl) (rw (t .type-of .ensures) at (c2 .byte .ensures))
-    (field-then 2 (s .args .r) _ _ (lit< tt) (refl, sized s .firm) (c3 .run .ensures)
+    (field-then 2 (s .args .r) _ _ (lit< tt) (refl, sized s .firm) (c3 .store .ensures)
     (field-then 3 (s .args .r) _ _ (lit< tt) (refl, refl) (c4 .byte2 .ensures)
     (field-then 4 (s .args .r) _ _ (lit< tt) (refl, refl) (c5 .byte3 .ensures)
     (field-then 5 (s .args .r) _ _ (lit< tt) (liquidity-text (s .args .r .event), refl) (rw (e .trade-of .ensures) at (c6 .byte4 .ensures))
@@ -73,8 +73,8 @@ event-fields-spec =
     filled-requires
     type-of-requires
     byte-requires
-    slice-aggregate-run
-    run-requires
+    slice-aggregate-store
+    store-requires
     byte-requires-2
     byte-requires-3
     byte-requires-4

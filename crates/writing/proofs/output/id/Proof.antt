@@ -13,17 +13,17 @@ same-length c = search needs
 returns : tie.Need-returns
 returns c = c .before .before .filled .ensures ∙ rw (c .before .before .before .before .if1 .taken)
 
-slice-aggregate-run : tie.Need-slice-aggregate-run
-slice-aggregate-run c = search needs
+slice-aggregate-store : tie.Need-slice-aggregate-store
+slice-aggregate-store c = search needs
 
-run-requires : tie.Need-run-requires
-run-requires c κs = search needs
+store-requires : tie.Need-store-requires
+store-requires c κs = search needs
 
 same-length-2 : tie.Need-same-length-2
 same-length-2 c = search needs
 
 returns-2 : tie.Need-returns-2
-returns-2 c = c .before .before .run .ensures ∙ rw (c .before .before .before .before .before .if1 .left)
+returns-2 c = c .before .before .store .ensures ∙ rw (c .before .before .before .before .before .if1 .left)
 
 pub id-spec : {M : Type 1} → statement M
 id-spec =
@@ -32,7 +32,7 @@ id-spec =
     filled-requires
     same-length
     returns
-    slice-aggregate-run
-    run-requires
+    slice-aggregate-store
+    store-requires
     same-length-2
     returns-2)

@@ -20,11 +20,11 @@ id-requires c κs = search needs
 id-requires-2 : tie.Need-id-requires-2
 id-requires-2 c κs = search needs
 
-slice-aggregate-run : tie.Need-slice-aggregate-run
-slice-aggregate-run c = search needs
+slice-aggregate-store : tie.Need-slice-aggregate-store
+slice-aggregate-store c = search needs
 
-run-requires : tie.Need-run-requires
-run-requires c κs = search needs
+store-requires : tie.Need-store-requires
+store-requires c κs = search needs
 
 same-length : tie.Need-same-length
 same-length c = search needs
@@ -40,7 +40,7 @@ returns c =
     let s = e .before .before in
     field-then 22 (s .args .r) _ _ (lit< tt) (match-text (s .args .r .event)) (rw (i .is-trade .ensures, t .type-of .ensures, e .trade-of .ensures) at (c23 .id .ensures))
     (field-then 23 (s .args .r) _ _ (lit< tt) (cross-text (s .args .r .event)) (rw (i .is-trade .ensures, t .type-of .ensures, e .trade-of .ensures) at (c24 .id2 .ensures))
-    (ends (s .args .r) _ (d .run .ensures)))
+    (ends (s .args .r) _ (d .store .ensures)))
 
 pub trade-fields-spec : {M : Type 1} → statement M
 trade-fields-spec =
@@ -51,7 +51,7 @@ trade-fields-spec =
     is-trade-requires
     id-requires
     id-requires-2
-    slice-aggregate-run
-    run-requires
+    slice-aggregate-store
+    store-requires
     same-length
     returns)

@@ -1,4 +1,4 @@
--- `cell::zeros` meets its contract: what was seen so far, and the rest, give the whole answer.
+-- `run::zeros` meets its contract: what was seen so far, and the rest, give the whole answer.
 use Prim.Native.Nat.{_-_, _≤_}
 use mathlib.Core.Path.{_≡_, sym, ap}
 use mathlib.Core.Bool.{_&&_}
@@ -6,13 +6,11 @@ use native.Mathlib.Omega.{arith}
 use borrow.Author.Needs.{needs}
 use denote.Ref.{now}
 use lib.ListN.{drop}
-use Rattle.field.specs.Byte.{all}
-use Rattle.layout.specs.Layout.{part}
-use Rattle.cell.specs.Cells.{isZero}
-use Rattle.field.proofs.Scan.{all-next, all-end}
-use Rattle.cell.proofs.Laws.{length-part, getD-part}
-use Rattle.cell.proofs.zeros.Statement.{statement}
-use Rattle.cell.proofs.zeros.Tie as tie
+use Rattle.run.specs.Runs.{part, all, isZero}
+use Rattle.run.proofs.Scan.{all-next, all-end}
+use Rattle.run.proofs.Parts.{length-part, getD-part}
+use Rattle.run.proofs.zeros.Statement.{statement}
+use Rattle.run.proofs.zeros.Tie as tie
 
 abbrev Inv-loop : tie.InvT-loop
 Inv-loop s at w good₀ i₀ good i = (i ≤ w) × (all isZero (part s at w) ≡ (good && all isZero (drop i (part s at w))))

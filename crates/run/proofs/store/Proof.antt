@@ -1,4 +1,4 @@
--- `field::put::run` meets its contract: what is written, and what is left to write, give the same end.
+-- `run::store` meets its contract: what is stored, and what is left to store, give the same end.
 use Prim.Native.Nat.{_≤_, _+_, _-_}
 use mathlib.Core.Path.{refl, sym, _∙_, _≡_}
 use native.Mathlib.Nat.{add-zero}
@@ -6,9 +6,9 @@ use borrow.Author.Needs.{needs}
 use denote.Ref.{now}
 use lib.ListN.{length-set, length, drop}
 use lib.Seq.{sets}
-use Rattle.field.proofs.Stores.{run-next, run-end}
-use Rattle.field.proofs.put.run.Statement.{statement}
-use Rattle.field.proofs.put.run.Tie as tie
+use Rattle.run.proofs.Stores.{store-next, store-end}
+use Rattle.run.proofs.store.Statement.{statement}
+use Rattle.run.proofs.store.Tie as tie
 
 abbrev Inv-loop : tie.InvT-loop
 Inv-loop out₀ at s i₀ out i = (i ≤ length s) × (length out ≡ length out₀) × (sets out (at + i) (drop i s) ≡ sets out₀ at s)
@@ -38,16 +38,16 @@ loop-again : tie.Need-loop-again Inv-loop μ-loop
 loop-again c =
     let l = c .before .before .loop in
     let a = c .before .before .before .args in
-    (search needs, simp length-set (l .inv .1), run-next (l .out) (now (a .s)) (a .at) (l .i) (search needs) ∙ l .inv .2)
+    (search needs, simp length-set (l .inv .1), store-next (l .out) (now (a .s)) (a .at) (l .i) (search needs) ∙ l .inv .2)
 
 same-length : tie.Need-same-length Inv-loop μ-loop
 same-length c = search needs
 
 returns : tie.Need-returns Inv-loop μ-loop
-returns c = let l = c .before .loop in let a = c .before .before .args in sym (run-end (l .out) (now (a .s)) (a .at) (l .i) (search needs)) ∙ l .inv .2
+returns c = let l = c .before .loop in let a = c .before .before .args in sym (store-end (l .out) (now (a .s)) (a .at) (l .i) (search needs)) ∙ l .inv .2
 
-pub run-spec : {M : Type 1} → statement M
-run-spec =
+pub store-spec : {M : Type 1} → statement M
+store-spec =
     tie.close
     (tie.spec
     Inv-loop

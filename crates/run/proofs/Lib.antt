@@ -1,0 +1,12 @@
+-- Tests joined by and, and by or
+pub mod Tests
+-- What a loop over a run keeps
+pub mod Scan
+-- All bytes of runs joined, and of a wider test
+pub mod All
+-- A part before, after and inside a run of stores
+pub mod Parts
+-- Stores one behind another, and a loop of them
+pub mod Stores
+-- Two runs that the test takes for the same are equal
+pub mod Sameness

@@ -1,0 +1,2 @@
+-- Parts, sameness, and what holds of bytes
+pub mod Runs
