@@ -17,11 +17,11 @@ use Rattle.order.specs.declared.Figures.{Figures}
 use Rattle.order.specs.declared.Order.{Order}
 use Rattle.day.specs.Machine.{withFigures, newOrder}
 use Rattle.slot.specs.Slots.{orderIn, slotBytes}
-use Rattle.slot.specs.Places.{slot, slotAt}
+use Rattle.slot.specs.Places.{slot, slotAt, SlotInside}
 use Rattle.table.specs.Tables.{countIn, sound, tableIn}
 use Rattle.slot.proofs.Laws.{header-kept}
 use Rattle.book.specs.Bytes.{changedAt, appended, bookBytes, bookAnswer}
-use Rattle.book.specs.Plans.{Inside, refigured, Plans, BooksSaid, answerOf, afterPlan}
+use Rattle.book.specs.Plans.{refigured, Plans, BooksSaid, answerOf, afterPlan}
 use Rattle.book.specs.Promises.{Books, bookingOf}
 use Rattle.book.specs.declared.Booking.{Booking}
 use Rattle.book.specs.declared.Booking.the-variants.{Booked, Refused}
@@ -39,7 +39,7 @@ pub one-changed : (s : List ℕ) (i : ℕ) (g : Order → Order) (o : Order) →
 one-changed s i g o e = ap (λ x. sets s (slotAt i) (slotBytes (g x))) e
 
 -- a changed order leaves the free slot where it was
-pub free-kept : (s u : List ℕ) (i : ℕ) (f : Figures) → u ≡ refigured i f s → Inside (countIn s) s → Inside (countIn u) u
+pub free-kept : (s u : List ℕ) (i : ℕ) (f : Figures) → u ≡ refigured i f s → SlotInside (countIn s) s → SlotInside (countIn u) u
 free-kept s u i f e h =
     let b = slotBytes (withFigures (λ (old : Figures). f) (orderIn (slot s i))) in
     let kept : countIn (sets s (slotAt i) b) ≡ countIn s = ap le (header-kept s b i 0 4 (omega arith)) in

@@ -19,7 +19,7 @@ use Rattle.day.specs.Machine.{place, amend}
 use Rattle.day.specs.Tables.{Table, withOrders, withOver}
 use Rattle.day.proofs.Tables.{table-eq}
 use Rattle.slot.specs.Slots.{slotBytes, termsBytes, figuresBytes, orderIn, Fits}
-use Rattle.slot.specs.Places.{slotAt, slot, ordersIn}
+use Rattle.slot.specs.Places.{slotAt, slot, SlotInside, ordersIn}
 use Rattle.table.specs.Tables.{countIn, tableIn, tailZero}
 use Rattle.slot.proofs.Laws.{stored-here, stored-elsewhere, header-kept, header-byte, orders-kept, orders-set, orders-append, length-orders, order-no}
 use Rattle.slot.proofs.Lookups.{at-found, amend-at}
@@ -67,7 +67,7 @@ module _ (s : List ℕ) (i : ℕ) (o : Order) where
   same-spare : part now 5 3 ≡ part s 5 3
   same-spare = header-kept s (slotBytes o) i 5 3 (omega arith)
 
-  stored-tail : Fits o → slotAt i + 80 ≤ length s → (k : ℕ) → ((k ≡ i → ⊥) → TailZero s k) → TailZero now k
+  stored-tail : Fits o → SlotInside i s → (k : ℕ) → ((k ≡ i → ⊥) → TailZero s k) → TailZero now k
   stored-tail f room k h = go (eqb k i) refl
     where
       go : (t : Bool) → eqb k i ≡ t → TailZero now k
@@ -143,7 +143,7 @@ module _ (s : List ℕ) (o : Order) where
       its-count : countIn s ≡ length (t .orders)
       its-count = sym (length-orders 0 (countIn s) s) ∙ ap (λ (t : Table). length (t .orders)) (h .says)
 
-      inside : slotAt (countIn s) + 80 ≤ length s
+      inside : SlotInside (countIn s) s
       inside = omega (arith, its-count, h .long)
 
       same-length : length stored ≡ length s

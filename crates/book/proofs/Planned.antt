@@ -23,10 +23,10 @@ use Rattle.day.specs.History.{isNew, isMaker, isReplace}
 use Rattle.day.specs.Machine.{nobody, found, find, isFound, place, differs, notOpen, notExecuted, refusalOf, withFigures, withPrice, newOrder}
 use Rattle.day.specs.Refusals.{subject}
 use Rattle.slot.specs.Slots.{orderIn}
-use Rattle.slot.specs.Places.{slot}
+use Rattle.slot.specs.Places.{slot, SlotInside}
 use Rattle.table.specs.Tables.{limitOf, tableIn}
 use Rattle.book.specs.Bytes.{changedAt, changed, appended, eventBytes}
-use Rattle.book.specs.Plans.{Inside, Plans, RoomFor, planBy, planAbout, answerOf, afterPlan}
+use Rattle.book.specs.Plans.{Plans, RoomFor, planBy, planAbout, answerOf, afterPlan}
 use Rattle.book.specs.declared.Plan.{Plan}
 use Rattle.book.specs.declared.Plan.the-variants.{No, New}
 use Rattle.book.proofs.There.{free}
@@ -50,7 +50,7 @@ module _ (s : List ℕ) (r : Record) where
   plan-answer Replaced i f = refl
   plan-answer Repriced i f = refl
 
-  plan-room : (e : Event) (i : ℕ) (f : Figures) → Inside i s → (isMaker e && leb (limitOf (length s)) (length (tableIn s .orders))) ≡ false
+  plan-room : (e : Event) (i : ℕ) (f : Figures) → SlotInside i s → (isMaker e && leb (limitOf (length s)) (length (tableIn s .orders))) ≡ false
       → RoomFor (planBy e i f r) s
   plan-room Accepted i f h m = free s m
   plan-room (Executed t) i f h m = h
@@ -104,7 +104,7 @@ module _ (s : List ℕ) (r : Record) where
         unknown-key f = refuses UnknownKey (rw (a, b, n, f)) refl refl
 
         -- the order that the line speaks of stands at place i
-        module _ (i : ℕ) (o : Order) (f : find (subject r) orders ≡ found o) (at : place (subject r) orders ≡ i + 1) (e : o ≡ orderIn (slot s i)) (h : Inside i s) where
+        module _ (i : ℕ) (o : Order) (f : find (subject r) orders ≡ found o) (at : place (subject r) orders ≡ i + 1) (e : o ≡ orderIn (slot s i)) (h : SlotInside i s) where
           pub about : (full : Bool) → full ≡ leb (limitOf (length s)) (length orders) → Plans s r (planAbout i o r full)
           about full m = go (differs r (found o)) (notOpen r (found o)) (notExecuted r (found o)) (isMaker (r .event) && full) refl refl refl refl
             where

@@ -14,17 +14,16 @@ use Rattle.order.specs.declared.Order.{Order}
 use Rattle.day.specs.Machine.{found, find, place}
 use Rattle.day.proofs.Undamaged.{sums}
 use Rattle.slot.specs.Slots.{orderIn}
-use Rattle.slot.specs.Places.{slot}
+use Rattle.slot.specs.Places.{slot, SlotInside}
 use Rattle.table.specs.Tables.{countIn, limitOf, sound, tableIn}
 use Rattle.slot.proofs.Laws.{length-orders, order-no}
 use Rattle.table.proofs.Limits.{slot-inside}
 use Rattle.slot.proofs.Lookups.{at-found}
 use Rattle.table.proofs.Whole.{whole}
-use Rattle.book.specs.Plans.{Inside}
 
 -- o, at place i, is the order that a lookup of k finds
 pub record There (s : List ℕ) (k : Key) (i : ℕ) (o : Order) : Type 0 where
-  pub inside : Inside i s
+  pub inside : SlotInside i s
   pub is : find k (tableIn s .orders) ≡ found o
   pub sums : Sound (o .figures)
 
@@ -43,7 +42,7 @@ there s k i o e p q =
     }
 
 -- a table that is not full has a free slot
-pub free : (s : List ℕ) → leb (limitOf (length s)) (length (tableIn s .orders)) ≡ false → Inside (countIn s) s
+pub free : (s : List ℕ) → leb (limitOf (length s)) (length (tableIn s .orders)) ≡ false → SlotInside (countIn s) s
 free s e =
     let n = length-orders 0 (countIn s) s in
     slot-inside (length s) (countIn s) (omega (arith, leb-false (limitOf (length s)) (length (tableIn s .orders)) e))

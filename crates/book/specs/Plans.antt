@@ -1,5 +1,5 @@
 -- What a plan for a line is, and what carrying it out does to the bytes of a table.
-use Prim.Native.Nat.{ℕ, _+_, _≤_}
+use Prim.Native.Nat.{ℕ, _+_}
 use mathlib.Core.Path.{_≡_}
 use mathlib.Core.Bool.{Bool, cond, _&&_}
 use mathlib.Core.List.{List}
@@ -15,7 +15,7 @@ use Rattle.order.specs.declared.Figures.{Figures}
 use Rattle.order.specs.declared.Order.{Order}
 use Rattle.day.specs.History.{isMaker}
 use Rattle.day.specs.Machine.{bookSaid, found, differs, notOpen, notExecuted, withFigures, withPrice, newOrder}
-use Rattle.slot.specs.Places.{slotAt}
+use Rattle.slot.specs.Places.{SlotInside}
 use Rattle.table.specs.Tables.{countIn, limitOf, tableIn}
 use Rattle.book.specs.Bytes.{changedAt, appended, saidBytes}
 use Rattle.book.specs.Promises.{bookingOf}
@@ -59,17 +59,13 @@ afterPlan (Change i f) r s = refigured i f s
 afterPlan (Price i p) r s = changedAt i (withPrice p) s
 afterPlan (Replace i f) r s = appended (newOrder r (r .contracts) (i + 1)) (refigured i f s)
 
--- a slot is inside the table
-abbrev pub Inside : ℕ → List ℕ → Type 0
-Inside i s = slotAt i + 80 ≤ length s
-
 -- the slots that a plan stores to are inside the table
 abbrev pub RoomFor : Plan → List ℕ → Type 0
 RoomFor (No x) s = Unit {0}
-RoomFor New s = Inside (countIn s) s
-RoomFor (Change i f) s = Inside i s
-RoomFor (Price i p) s = Inside i s
-RoomFor (Replace i f) s = Inside i s × Inside (countIn s) s
+RoomFor New s = SlotInside (countIn s) s
+RoomFor (Change i f) s = SlotInside i s
+RoomFor (Price i p) s = SlotInside i s
+RoomFor (Replace i f) s = SlotInside i s × SlotInside (countIn s) s
 
 -- a plan for a line
 pub record Plans (s : List ℕ) (r : Record) (p : Plan) : Type 0 where

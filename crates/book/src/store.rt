@@ -3,9 +3,10 @@ ghost use mathlib.Core.Path.{_≡_};
 ghost use mathlib.Core.Bool.{true};
 ghost use Rattle.layout.specs.Line.{line, endOfDay};
 ghost use Rattle.day.specs.Machine.{newOrder, withPrice};
+ghost use Rattle.slot.specs.Places.{SlotInside};
 ghost use Rattle.table.specs.Tables.{countIn, sound};
 ghost use Rattle.book.specs.Bytes.{appended, changedAt};
-ghost use Rattle.book.specs.Plans.{Inside, BooksSaid, refigured};
+ghost use Rattle.book.specs.Plans.{BooksSaid, refigured};
 ghost use Rattle.book.specs.Promises.{Books};
 use crate::Booking;
 use crate::Plan;
@@ -95,7 +96,7 @@ fn new_order(r: Record, size: u64, elder: u64) -> Order
 
 // One order more. Its slot is stored before the count says that it is there.
 fn append(t: &mut [u8], o: Order)
-    requires { ⌜ Inside (countIn (now t)) (now t) ⌝ }
+    requires { ⌜ SlotInside (countIn (now t)) (now t) ⌝ }
     ensures { λ _. ⌜ now (t .exit) ≡ appended o (now (t .entry)) ⌝ }
 {
     let n = header::count(t);
@@ -104,7 +105,7 @@ fn append(t: &mut [u8], o: Order)
 }
 
 fn refigure(t: &mut [u8], i: usize, f: Figures)
-    requires { ⌜ Inside i (now t) ⌝ }
+    requires { ⌜ SlotInside i (now t) ⌝ }
     ensures { λ _. ⌜ now (t .exit) ≡ refigured i f (now (t .entry)) ⌝ }
 {
     let mut o = slot::order_at(t, i);
@@ -113,7 +114,7 @@ fn refigure(t: &mut [u8], i: usize, f: Figures)
 }
 
 fn reprice(t: &mut [u8], i: usize, p: u64)
-    requires { ⌜ Inside i (now t) ⌝ }
+    requires { ⌜ SlotInside i (now t) ⌝ }
     ensures { λ _. ⌜ now (t .exit) ≡ changedAt i (withPrice p) (now (t .entry)) ⌝ }
 {
     let mut o = slot::order_at(t, i);

@@ -7,7 +7,7 @@ use mathlib.Core.List.{List}
 use lib.ListN.{length, take, drop, length-take}
 use Rattle.order.specs.declared.Figures.{Figures}
 use Rattle.slot.specs.Slots.{figuresIn, orderIn}
-use Rattle.slot.specs.Places.{slot, slotAt}
+use Rattle.slot.specs.Places.{slot, slotAt, SlotInside}
 use Rattle.row.specs.Texts.{decimal, trimmed, figuresText, namesText, rankText, orderText}
 use Rattle.row.specs.Writes.{Put, Wrote}
 use Rattle.run.proofs.Parts.{length-part, part-part}
@@ -76,7 +76,7 @@ module _ (t : List ℕ) (i family rank : ℕ) (f : Figures) (e : f ≡ figuresIn
       let names = rw names-lent at c in
       from-front (then (then a figures) names)
 
-  pub row-long : (d : ℕ) → slotAt i + 80 ≤ length t → d ≡ length (trimmed (lentToken t i))
+  pub row-long : (d : ℕ) → SlotInside i t → d ≡ length (trimmed (lentToken t i))
       → length (decimal family) + length (decimal rank) + length (figuresText f) + d + 10 ≡ length (orderText family rank (orderIn (slot t i)))
   row-long d h k =
       let source : length (orderIn (slot t i) .key .source) ≡ 6 = length-part (slot t i) 0 6 (rw (length-part t (slotAt i) 80 h) (omega arith)) in

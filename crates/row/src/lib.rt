@@ -3,7 +3,7 @@ ghost use Prim.Native.Nat.{_+_, _≤_};
 ghost use mathlib.Core.Path.{_≡_};
 ghost use lib.ListN.{length, take};
 ghost use Rattle.slot.specs.Slots.{orderIn};
-ghost use Rattle.slot.specs.Places.{slot, slotAt};
+ghost use Rattle.slot.specs.Places.{slot, SlotInside};
 ghost use Rattle.row.specs.Texts.{column, decimal, figuresText, namesText, rankText, orderText, tradedText, trimmed};
 ghost use Rattle.row.specs.Writes.{Put, Wrote};
 
@@ -14,7 +14,7 @@ use order::Figures;
 use slot::HEADER;
 use slot::KEY;
 use slot::SLOT;
-use slot::TOKEN;
+use slot::offset;
 
 // How much of a run is left without the spaces on its right.
 fn unpadded(s: &[u8]) -> usize
@@ -93,7 +93,7 @@ fn figures_length(f: Figures) -> usize
 }
 
 pub fn length(t: &[u8], i: usize, family: u64, rank: u64) -> usize
-    requires { ⌜ slotAt i + 80 ≤ length (now t) ⌝ }
+    requires { ⌜ SlotInside i (now t) ⌝ }
     ensures { λ r. ⌜ r ≡ length (orderText family rank (orderIn (slot (now (t .entry)) i))) ⌝ }
 {
     let at = HEADER + SLOT * i;
@@ -102,13 +102,13 @@ pub fn length(t: &[u8], i: usize, family: u64, rank: u64) -> usize
     decimal::digits(family)
         + decimal::digits(rank)
         + figures
-        + unpadded(&t[at + TOKEN..at + KEY])
+        + unpadded(&t[at + offset::TOKEN..at + KEY])
         + 10
 }
 
 // Source and Token are lent from the table as they stand there.
 pub fn write(t: &[u8], i: usize, family: u64, rank: u64, out: &mut [u8]) -> usize
-    requires { ⌜ slotAt i + 80 ≤ length (now t) ⌝ }
+    requires { ⌜ SlotInside i (now t) ⌝ }
     requires { ⌜ length (orderText family rank (orderIn (slot (now t) i))) ≤ length (now out) ⌝ }
     ensures { λ r. ⌜ Wrote (orderText family rank (orderIn (slot (now (t .entry)) i))) (now (out .entry)) (now (out .exit)) r ⌝ }
 {
@@ -118,7 +118,7 @@ pub fn write(t: &[u8], i: usize, family: u64, rank: u64, out: &mut [u8]) -> usiz
     put_names(
         out,
         figures_end,
-        &t[at..at + TOKEN],
-        &t[at + TOKEN..at + KEY],
+        &t[at..at + offset::TOKEN],
+        &t[at + offset::TOKEN..at + KEY],
     )
 }

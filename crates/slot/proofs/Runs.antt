@@ -25,12 +25,12 @@ number w v e = record { wide = length-le w v; stored = e }
 pub byte : {before after : List ℕ} {at : ℕ} (b : ℕ) → after ≡ sets before at (b ∷ []) → Stored before at 1 (b ∷ []) after
 byte b e = record { wide = refl; stored = e }
 
-pub then : {before between after : List ℕ} {at w n : ℕ} {xs ys : List ℕ}
-    → Stored before at w xs between → Stored between (at + w) n ys after → Stored before at (w + n) (xs ++ ys) after
-then {before = l} {at = at} {w = w} {xs = xs} {ys = ys} a b =
+pub then : {before between after : List ℕ} {at there w n : ℕ} {xs ys : List ℕ}
+    → Stored before at w xs between → Stored between there n ys after → there ≡ at + w → Stored before at (w + n) (xs ++ ys) after
+then {before = l} {at = at} {w = w} {xs = xs} {ys = ys} a b e =
     record {
       wide = rw (length-append, a .wide, b .wide);
-      stored = b .stored ∙ rw (a .stored) (sets-append l at w xs ys (a .wide));
+      stored = b .stored ∙ rw (e, a .stored) (sets-append l at w xs ys (a .wide));
     }
 
 -- ---- widths

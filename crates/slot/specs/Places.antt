@@ -1,23 +1,30 @@
 -- docs/LAYOUT.md, The lent table: the slots one after another, and the answer of a lookup by key.
-use Prim.Native.Nat.{ℕ, zero, suc, _+_, _*_}
-use mathlib.Core.List.{List, [], _∷_}
-use Rattle.run.specs.Runs.{part}
+use Prim.Native.Nat.{ℕ, _+_}
+use mathlib.Core.List.{List}
 use Rattle.order.specs.declared.Order.{Order}
+use Rattle.section.specs.Sections.{startOf, recordOf, recordsIn, Inside}
+use Rattle.section.specs.declared.Section.{Section}
 use Rattle.slot.specs.Slots.{orderIn}
 use Rattle.slot.specs.declared.Place.{Place}
 use Rattle.slot.specs.declared.Place.the-variants.{At, Nobody}
 
--- the place of a slot, behind the header
+-- slots of 80 bytes, one right behind the other, behind the header
+abbrev pub slots : Section
+slots = record { first = 8; step = 80; width = 80 }
+
 abbrev pub slotAt : ℕ → ℕ
-slotAt i = 8 + 80 * i
+slotAt i = startOf slots i
 
 abbrev pub slot : List ℕ → ℕ → List ℕ
-slot s i = part s (slotAt i) 80
+slot s i = recordOf slots s i
+
+-- slot i lies within the bytes
+abbrev pub SlotInside : ℕ → List ℕ → Type 0
+SlotInside i s = Inside slots s i
 
 -- n orders, the first of them at slot i
 abbrev pub ordersIn : ℕ → ℕ → List ℕ → List Order
-ordersIn i zero s = []
-ordersIn i (suc n) s = orderIn (slot s i) ∷ ordersIn (i + 1) n s
+ordersIn i n s = recordsIn orderIn slots s i n
 
 -- where an order was found: one more than its place, or 0
 abbrev pub placeNo : Place → ℕ

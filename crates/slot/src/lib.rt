@@ -1,5 +1,6 @@
 // An order at a slot of the lent table (docs/LAYOUT.md), and the earliest order with a key.
 mod lookup;
+pub mod offset;
 mod read;
 mod write;
 
@@ -10,21 +11,12 @@ pub use read::figures_in;
 pub use read::order_at;
 pub use write::store;
 
-// What stands before the first slot, and a slot.
+// What stands before the first slot, a slot, and the key at the beginning of one: its Source, then its Token.
 pub const HEADER: usize = 8;
 
 pub const SLOT: usize = 80;
 
-// In a slot: the Token behind the Source, the end of the key, the elder, the figures, and the five bytes that must be 0.
-pub const TOKEN: usize = 6;
-
 pub const KEY: usize = 26;
-
-pub const ELDER: usize = 49;
-
-pub const FIGURES: usize = 51;
-
-pub const REST: usize = 75;
 
 // The earliest order with a key.
 pub enum Place {

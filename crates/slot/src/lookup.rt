@@ -10,7 +10,7 @@ ghost use Rattle.slot.specs.Places.{slotAt, ordersIn, placeNo};
 use crate::HEADER;
 use crate::Place;
 use crate::SLOT;
-use crate::TOKEN;
+use crate::offset;
 use order::Key;
 
 // Whether the slot at an offset has the key made of two runs. The Token is tested first: many orders have one Source, and few one Token.
@@ -20,7 +20,7 @@ fn has_key(t: &[u8], at: usize, source: &[u8], token: &[u8]) -> bool
     requires { ⌜ length (now token) ≡ 20 ⌝ }
     ensures { λ r. ⌜ r ≡ sameKey (keyIn (part (now (t .entry)) at 80)) (record { source = now (source .entry); token = now (token .entry) }) ⌝ }
 {
-    run::same_at(t, at + TOKEN, token) && run::same_at(t, at, source)
+    run::same_at(t, at + offset::TOKEN, token) && run::same_at(t, at, source)
 }
 
 // The earliest of the first n orders with the key made of two runs. Runs are lent, since a Key by value would be stored anew at each slot.

@@ -3,13 +3,11 @@ ghost use Prim.Native.Nat.{_+_, _≤_};
 ghost use mathlib.Core.Path.{_≡_};
 ghost use lib.ListN.{length};
 ghost use Rattle.slot.specs.Slots.{orderIn, keyIn, seriesIn, figuresIn};
-ghost use Rattle.slot.specs.Places.{slot, slotAt};
-use crate::ELDER;
-use crate::FIGURES;
+ghost use Rattle.slot.specs.Places.{slot, SlotInside};
 use crate::HEADER;
 use crate::KEY;
 use crate::SLOT;
-use crate::TOKEN;
+use crate::offset;
 use order::Figures;
 use order::Key;
 use order::Order;
@@ -21,9 +19,9 @@ fn key_in(b: &[u8]) -> Key
     ensures { λ r. ⌜ r ≡ keyIn (now (b .entry)) ⌝ }
 {
     let mut source = [0u8; 6];
-    run::copy(&mut source, &b[0..TOKEN]);
+    run::copy(&mut source, &b[0..offset::TOKEN]);
     let mut token = [0u8; 20];
-    run::copy(&mut token, &b[TOKEN..KEY]);
+    run::copy(&mut token, &b[offset::TOKEN..KEY]);
     Key { source, token }
 }
 
@@ -32,14 +30,14 @@ fn series_in(b: &[u8]) -> Series
     ensures { λ r. ⌜ r ≡ seriesIn (now (b .entry)) ⌝ }
 {
     let mut root = [0u8; 6];
-    run::copy(&mut root, &b[27..33]);
+    run::copy(&mut root, &b[offset::ROOT..offset::MONTH]);
     Series {
         root,
-        month: b[33],
-        date: cell::get(b, 34, 1),
-        year: cell::get(b, 35, 1),
-        denominator: b[36],
-        strike: cell::get(b, 37, 4),
+        month: b[offset::MONTH],
+        date: cell::get(b, offset::DATE, 1),
+        year: cell::get(b, offset::YEAR, 1),
+        denominator: b[offset::DENOMINATOR],
+        strike: cell::get(b, offset::STRIKE, 4),
     }
 }
 
@@ -48,12 +46,12 @@ pub fn figures_in(b: &[u8]) -> Figures
     ensures { λ r. ⌜ r ≡ figuresIn (now (b .entry)) ⌝ }
 {
     Figures {
-        size: cell::get(b, FIGURES, 4),
-        executed: cell::get(b, 55, 4),
-        broken: cell::get(b, 59, 4),
-        cancelled: cell::get(b, 63, 4),
-        passed: cell::get(b, 67, 4),
-        open: cell::get(b, 71, 4),
+        size: cell::get(b, offset::SIZE, 4),
+        executed: cell::get(b, offset::EXECUTED, 4),
+        broken: cell::get(b, offset::BROKEN, 4),
+        cancelled: cell::get(b, offset::CANCELLED, 4),
+        passed: cell::get(b, offset::PASSED, 4),
+        open: cell::get(b, offset::OPEN, 4),
     }
 }
 
@@ -63,16 +61,16 @@ fn order_in(b: &[u8]) -> Order
 {
     Order {
         key: key_in(b),
-        side: b[KEY],
+        side: b[offset::SIDE],
         series: series_in(b),
-        price: cell::get(b, 41, 8),
-        elder: cell::get(b, ELDER, 2),
+        price: cell::get(b, offset::PRICE, 8),
+        elder: cell::get(b, offset::ELDER, 2),
         figures: figures_in(b),
     }
 }
 
 pub fn order_at(t: &[u8], i: usize) -> Order
-    requires { ⌜ slotAt i + 80 ≤ length (now t) ⌝ }
+    requires { ⌜ SlotInside i (now t) ⌝ }
     ensures { λ r. ⌜ r ≡ orderIn (slot (now (t .entry)) i) ⌝ }
 {
     let at = HEADER + SLOT * i;
@@ -81,8 +79,8 @@ pub fn order_at(t: &[u8], i: usize) -> Order
 
 // The elder alone, for a walk over many orders.
 pub fn elder_at(t: &[u8], i: usize) -> u64
-    requires { ⌜ slotAt i + 80 ≤ length (now t) ⌝ }
+    requires { ⌜ SlotInside i (now t) ⌝ }
     ensures { λ r. ⌜ r ≡ orderIn (slot (now (t .entry)) i) .elder ⌝ }
 {
-    cell::get(t, HEADER + SLOT * i + ELDER, 2)
+    cell::get(t, HEADER + SLOT * i + offset::ELDER, 2)
 }

@@ -13,7 +13,7 @@ use Rattle.refusal.specs.declared.Refusal.the-variants.{NoRoom, Damaged, Unknow
 use Rattle.day.specs.Machine.{place}
 use Rattle.table.specs.Promises.{LooksUp, Copies}
 use Rattle.slot.specs.Slots.{keyIn}
-use Rattle.slot.specs.Places.{slotAt}
+use Rattle.slot.specs.Places.{slotAt, SlotInside}
 use Rattle.table.specs.Tables.{countIn, sound, tableIn}
 use Rattle.table.specs.declared.Found.the-variants.{At as FoundAt, Refused as NotFound}
 use Rattle.table.specs.declared.Made.the-variants.{Done, Refused}
@@ -62,5 +62,5 @@ module _ (s : List ℕ) (i : ℕ) (before : List ℕ) where
           record { said = rw (e, room, there); out = rw (e, room, there) (rw wide at f) }
 
 -- a place below the count has a slot inside
-pub slot-of : (s : List ℕ) (i : ℕ) → sound s ≡ true → i < countIn s → slotAt i + 80 ≤ length s
+pub slot-of : (s : List ℕ) (i : ℕ) → sound s ≡ true → i < countIn s → SlotInside i s
 slot-of s i e h = omega (arith, whole s e .slots)

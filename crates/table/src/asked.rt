@@ -9,7 +9,7 @@ use slot::HEADER;
 use slot::KEY;
 use slot::Place;
 use slot::SLOT;
-use slot::TOKEN;
+use slot::offset;
 
 // A key is its Source and its Token, one behind the other, as a slot has them.
 pub fn look_up(t: &[u8], key: &[u8]) -> Found
@@ -24,8 +24,8 @@ pub fn look_up(t: &[u8], key: &[u8]) -> Found
     match slot::find(
         t,
         header::count(t) as usize,
-        &key[0..TOKEN],
-        &key[TOKEN..KEY],
+        &key[0..offset::TOKEN],
+        &key[offset::TOKEN..KEY],
     ) {
         Place::At(i) => Found::At(i),
         Place::Nobody => Found::Refused(Refusal::UnknownKey),

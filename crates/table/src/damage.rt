@@ -3,26 +3,26 @@ ghost use Prim.Native.Nat.{_+_, _≤_, _<_};
 ghost use mathlib.Core.Path.{_≡_};
 ghost use lib.ListN.{length};
 ghost use Rattle.table.specs.Passing.{elderFits, roomIn, slotFits};
-ghost use Rattle.slot.specs.Places.{slotAt};
+ghost use Rattle.slot.specs.Places.{SlotInside};
 ghost use Rattle.table.specs.Tables.{countIn, limitOf, slotsSound, sound};
 use crate::flags;
 use crate::header;
 use order::Order;
 use slot::HEADER;
-use slot::REST;
 use slot::SLOT;
+use slot::offset;
 
 // The last five bytes of the slot, and the order in it.
 fn sound_slot(t: &[u8], i: usize, o: Order) -> bool
-    requires { ⌜ slotAt i + 80 ≤ length (now t) ⌝ }
+    requires { ⌜ SlotInside i (now t) ⌝ }
     ensures { λ r. ⌜ r ≡ slotFits (now (t .entry)) i o ⌝ }
 {
-    run::zeros(t, HEADER + SLOT * i + REST, 5) & order::sound_order(o)
+    run::zeros(t, HEADER + SLOT * i + offset::REST, 5) & order::sound_order(o)
 }
 
 // The elder's slot is read only once it is known to be an earlier one.
 fn sound_elder(t: &[u8], flags: &[u8], i: usize, e: usize) -> bool
-    requires { ⌜ slotAt i + 80 ≤ length (now t) ⌝ }
+    requires { ⌜ SlotInside i (now t) ⌝ }
     requires { ⌜ i < roomIn (now flags) ⌝ }
     ensures { λ r. ⌜ r ≡ elderFits (now (t .entry)) (now (flags .entry)) i e ⌝ }
 {

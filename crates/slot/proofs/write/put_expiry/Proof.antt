@@ -7,6 +7,9 @@ use Rattle.slot.proofs.Runs.{Stored, byte, number, then}
 use Rattle.slot.proofs.write.put_expiry.Statement.{statement}
 use Rattle.slot.proofs.write.put_expiry.Tie as tie
 
+add-store : tie.Need-add-store
+add-store c = search needs
+
 slice-aggregate-store : tie.Need-slice-aggregate-store
 slice-aggregate-store c = search needs
 
@@ -48,12 +51,13 @@ returns c =
     let month = byte (s .month) (second .byte .ensures) in
     let date = number 1 (s .date) (third .put .ensures) in
     let year = number 1 (s .year) (fourth .put2 .ensures) in
-    then (then (then root month) date) year .stored
+    then (then (then root month (omega arith)) date (omega arith)) year (omega arith) .stored
 
 pub put-expiry-spec : {M : Type 1} → statement M
 put-expiry-spec =
     tie.close
     (tie.spec
+    add-store
     slice-aggregate-store
     store-requires
     add-byte

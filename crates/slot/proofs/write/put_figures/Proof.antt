@@ -1,4 +1,6 @@
 -- `slot::write::put_figures` meets its contract.
+use Prim.Native.Nat.{_+_}
+use native.Mathlib.Omega.{arith}
 use mathlib.Core.Path.{refl}
 use borrow.Author.Needs.{needs}
 use denote.Ref.{now}
@@ -38,11 +40,11 @@ returns c =
     let second = third .before .before .before .before in
     let first = second .before .before .before .before in
     let a = first .before .before .before .args in
-    let traded : Stored (now (a .t)) (a .at) 12 (tradedBytes (a .f)) _ = record { wide = refl; stored = first .put-traded .ensures } in
+    let traded : Stored (now (a .t)) (a .at + 51) 12 (tradedBytes (a .f)) _ = record { wide = refl; stored = first .put-traded .ensures } in
     let cancelled = number 4 (a .f .cancelled) (second .put .ensures) in
     let passed = number 4 (a .f .passed) (third .put2 .ensures) in
     let left = number 4 (a .f .«open») (fourth .put3 .ensures) in
-    then (then (then traded cancelled) passed) left .stored
+    then (then (then traded cancelled (omega arith)) passed (omega arith)) left (omega arith) .stored
 
 pub put-figures-spec : {M : Type 1} → statement M
 put-figures-spec =

@@ -37,7 +37,7 @@ returns c =
     let k = start .args .k in
     let source : Stored _ _ 6 (k .source) _ = record { wide = search needs; stored = first .store .ensures } in
     let token : Stored _ _ 20 (k .token) _ = record { wide = search needs; stored = second .store2 .ensures } in
-    then source token .stored
+    then source token (omega arith) .stored
 
 pub put-key-spec : {M : Type 1} → statement M
 put-key-spec =

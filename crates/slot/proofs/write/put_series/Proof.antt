@@ -1,4 +1,5 @@
 -- `slot::write::put_series` meets its contract.
+use native.Mathlib.Omega.{arith}
 use borrow.Author.Needs.{needs}
 use Rattle.slot.specs.Slots.{expiryBytes}
 use Rattle.slot.proofs.Runs.{Stored, byte, number, then, length-expiry}
@@ -33,7 +34,7 @@ returns c =
     let expiry : Stored _ _ 9 (expiryBytes s) _ = record { wide = wide; stored = first .put-expiry .ensures } in
     let denominator = byte (s .denominator) (second .byte .ensures) in
     let strike = number 4 (s .strike) (third .put .ensures) in
-    then (then expiry denominator) strike .stored
+    then (then expiry denominator (omega arith)) strike (omega arith) .stored
 
 pub put-series-spec : {M : Type 1} → statement M
 put-series-spec =

@@ -1,4 +1,5 @@
 -- `slot::write::put_terms` meets its contract.
+use native.Mathlib.Omega.{arith}
 use borrow.Author.Needs.{needs}
 use Rattle.slot.specs.Slots.{keyBytes, seriesBytes}
 use Rattle.slot.proofs.Runs.{Stored, byte, number, then, length-key, length-series}
@@ -13,9 +14,6 @@ add-byte c = search needs
 
 byte-requires : tie.Need-byte-requires
 byte-requires c κs = search needs
-
-add-put-series : tie.Need-add-put-series
-add-put-series c = search needs
 
 put-series-requires : tie.Need-put-series-requires
 put-series-requires c κs = search needs
@@ -44,7 +42,7 @@ returns c =
     let side = byte (o .side) (second .byte .ensures) in
     let series : Stored _ _ 14 (seriesBytes (o .series)) _ = record { wide = wide-series; stored = third .put-series .ensures } in
     let price = number 8 (o .price) (fourth .put .ensures) in
-    then (then (then key side) series) price .stored
+    then (then (then key side (omega arith)) series (omega arith)) price (omega arith) .stored
 
 pub put-terms-spec : {M : Type 1} → statement M
 put-terms-spec =
@@ -53,7 +51,6 @@ put-terms-spec =
     put-key-requires
     add-byte
     byte-requires
-    add-put-series
     put-series-requires
     add-put
     put-requires

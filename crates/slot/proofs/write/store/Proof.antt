@@ -1,4 +1,5 @@
 -- `slot::write::store` meets its contract.
+use native.Mathlib.Omega.{arith}
 use mathlib.Core.Path.{refl}
 use borrow.Author.Needs.{needs}
 use Rattle.slot.specs.Slots.{termsBytes, figuresBytes}
@@ -20,9 +21,6 @@ add-put c = search needs
 
 put-requires : tie.Need-put-requires
 put-requires c κs = search needs
-
-add-put-figures : tie.Need-add-put-figures
-add-put-figures c = search needs
 
 put-figures-requires : tie.Need-put-figures-requires
 put-figures-requires c κs = search needs
@@ -50,7 +48,7 @@ returns c =
     let elder = number 2 (o .elder) (second .put .ensures) in
     let figures : Stored _ _ 24 (figuresBytes (o .figures)) _ = record { wide = refl; stored = third .put-figures .ensures } in
     let rest = number 5 0 (fourth .put2 .ensures) in
-    then (then (then terms elder) figures) rest .stored
+    then (then (then terms elder (omega arith)) figures (omega arith)) rest (omega arith) .stored
 
 pub store-spec : {M : Type 1} → statement M
 store-spec =
@@ -61,7 +59,6 @@ store-spec =
     put-terms-requires
     add-put
     put-requires
-    add-put-figures
     put-figures-requires
     add-put-2
     put-requires-2

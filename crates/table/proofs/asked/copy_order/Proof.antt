@@ -6,7 +6,7 @@ use borrow.Author.Tests.{not-true, not-false}
 use borrow.Author.Needs.{needs}
 use denote.Ref.{now}
 use lib.ListN.{length}
-use Rattle.slot.specs.Places.{slotAt}
+use Rattle.slot.specs.Places.{SlotInside}
 use Rattle.table.proofs.Asking.{uncopied, no-room, no-order, copied, slot-of}
 use Rattle.table.proofs.Whole.{whole}
 use Rattle.table.proofs.asked.copy_order.Statement.{statement}
@@ -34,7 +34,7 @@ returns-3 c =
     no-order (now (a .t)) (a .i) (now (a .out)) (sym (c .before .before .before .before .is-sound .ensures) ∙ not-false _ (c .before .before .before .if1 .left)) (search needs)
     (omega (arith, c .before .count .ensures))
 
-inside : (c : tie.Else3) → slotAt (c .before .before .before .before .before .before .before .args .i) + 80 ≤ length (now (c .before .before .before .before .before .before .before .args .t))
+inside : (c : tie.Else3) → SlotInside (c .before .before .before .before .before .before .before .args .i) (now (c .before .before .before .before .before .before .before .args .t))
 inside c = slot-of _ _ (sym (c .before .before .before .before .is-sound .ensures) ∙ not-false _ (c .before .before .before .if1 .left)) (omega (arith, c .before .count .ensures))
 
 mul-at : tie.Need-mul-at
