@@ -8,12 +8,11 @@ use Rattle.row.specs.Texts.{orderText}
 use Rattle.row.specs.Writes.{Wrote}
 use Rattle.slot.specs.Slots.{orderIn}
 use Rattle.slot.specs.Places.{ordersIn, slot}
-use Rattle.sheet.specs.Walk.{rowAt, walkText}
-use Rattle.sheet.specs.Walk.{Stands, eldersIn, familiesText, membersText, rowsBehind, seek}
+use Rattle.sheet.specs.Walk.{Stands, eldersIn, familiesText, membersBehind, membersText, rowAt, seek, walkText}
 use Rattle.sheet.specs.declared.Turn.{Turn}
 use Rattle.sheet.proofs.Joining.{lent, back, keeps-length, room-behind, one-text}
 use Rattle.sheet.proofs.Seeking.{length-elders-in}
-use Rattle.sheet.proofs.Turning.{turn, family-none, family-rows, last-rows, younger-rows}
+use Rattle.sheet.proofs.Turning.{turn, family-none, family-members, last-members, younger-members}
 
 row-from : (j n i p f k : ℕ) (s : List ℕ) → i < n → p ≡ j + i → rowAt (ordersIn j n s) i f k ≡ orderText f k (orderIn (slot s p))
 row-from j zero i p f k s h e = absurd (omega arith)
@@ -26,7 +25,7 @@ rowHere s x = orderText (x .family) (x .rank) (orderIn (slot s (x .place)))
 
 -- the text of the rows behind it
 abbrev pub textBehind : ℕ → List ℕ → Turn → List ℕ
-textBehind n s x = walkText (ordersIn 0 n s) (rowsBehind (eldersIn n s) x)
+textBehind n s x = walkText (ordersIn 0 n s) (membersBehind (eldersIn n s) x)
 
 pub row-first : (n : ℕ) (s : List ℕ) (x : Turn) → Stands n x → membersText n s x ≡ rowHere s x ++ textBehind n s x
 row-first n s x w =
@@ -37,15 +36,15 @@ row-first n s x w =
 module _ (n : ℕ) (s : List ℕ) (x : Turn) where
   pub younger-text : (y : ℕ) → y ≡ seek (x .place + 1) (x .place + 1) (drop (x .place + 1) (eldersIn n s)) → y < n
       → membersText n s (turn (x .root) y (x .family) (x .rank + 1)) ≡ textBehind n s x
-  younger-text y q h = ap (walkText (ordersIn 0 n s)) (younger-rows (eldersIn n s) n (length-elders-in n s) x y q h)
+  younger-text y q h = ap (walkText (ordersIn 0 n s)) (younger-members (eldersIn n s) n (length-elders-in n s) x y q h)
 
   pub last-text : (y : ℕ) → y ≡ seek (x .place + 1) (x .place + 1) (drop (x .place + 1) (eldersIn n s)) → n ≤ y
       → familiesText n s (x .root + 1) (x .family + 1) ≡ textBehind n s x
-  last-text y q h = ap (walkText (ordersIn 0 n s)) (last-rows (eldersIn n s) n (length-elders-in n s) x y q h)
+  last-text y q h = ap (walkText (ordersIn 0 n s)) (last-members (eldersIn n s) n (length-elders-in n s) x y q h)
 
 module _ (n : ℕ) (s : List ℕ) (f i r : ℕ) (q : r ≡ seek 0 i (drop i (eldersIn n s))) where
   pub family-text : r < n → membersText n s (turn r r f 1) ≡ familiesText n s i f
-  family-text h = ap (walkText (ordersIn 0 n s)) (family-rows (eldersIn n s) n (length-elders-in n s) f i r q h)
+  family-text h = ap (walkText (ordersIn 0 n s)) (family-members (eldersIn n s) n (length-elders-in n s) f i r q h)
 
   pub no-text : n ≤ r → familiesText n s i f ≡ []
   no-text h = ap (walkText (ordersIn 0 n s)) (family-none (eldersIn n s) n (length-elders-in n s) f i r q h)

@@ -1,4 +1,4 @@
--- From one member of the listing to the next: the rows behind a member begin with the order that is found, or end.
+-- From one member of the listing to the next: those behind a member begin with the order that is found, or there is none.
 use Prim.Native.Nat.{ℕ, zero, suc, _+_, _≤_, _<_}
 use native.Mathlib.Numerals.{add-one}
 use native.Mathlib.Omega.{arith}
@@ -12,7 +12,7 @@ use lib.Seq.{drop-cons}
 use Rattle.day.specs.Listing.{Member}
 use Rattle.day.specs.Walk.{member, below, families}
 use Rattle.day.proofs.Listings.{by-test}
-use Rattle.sheet.specs.Walk.{Stands, familiesFrom, rowsBehind, rowsFrom, rowsLeft, seek}
+use Rattle.sheet.specs.Walk.{Stands, familiesFrom, membersBehind, membersFrom, membersLeft, seek}
 use Rattle.sheet.specs.declared.Turn.{Turn}
 
 -- what is found lies behind the place where the search began, or there
@@ -20,7 +20,7 @@ seek-from : (e j : ℕ) (s : List ℕ) → j ≤ seek e j s
 seek-from e j [] = omega arith
 seek-from e j (x ∷ s) = by-test (λ (r : ℕ). j ≤ r) (eqb x e) (λ t. omega arith) (λ t. omega (arith, seek-from e (j + 1) s))
 
--- ---- the rows of a list of elders
+-- ---- the members of a list of elders
 
 -- what is left of it, one place on
 rest : (es : List ℕ) (j x : ℕ) (s : List ℕ) → drop j es ≡ x ∷ s → (j < length es) × (drop (j + 1) es ≡ s)
@@ -32,7 +32,7 @@ rest es j x s e =
 none-left : (es : List ℕ) (j : ℕ) → drop j es ≡ [] → ltb j (length es) ≡ false
 none-left es j e = le-ltb j (length es) (omega (arith, simp length-drop at (ap length e)))
 
--- the rows of a family from the one at place y on
+-- the members of a family from the one at place y on
 abbrev downFrom : List ℕ → ℕ → ℕ → ℕ → List Member
 downFrom es f k y = cond (ltb y (length es)) (member f k y ∷ below f k y (y + 1) (drop (y + 1) es)) []
 
@@ -52,42 +52,42 @@ abbrev pub turn : ℕ → ℕ → ℕ → ℕ → Turn
 turn b i f k = record { root = b; place = i; family = f; rank = k }
 
 over : (es : List ℕ) (f i : ℕ) (s : List ℕ) → drop i es ≡ s
-    → rowsLeft (length es) es (turn (seek 0 i s) (seek 0 i s) f 1) ≡ families f i s
+    → membersLeft (length es) es (turn (seek 0 i s) (seek 0 i s) f 1) ≡ families f i s
 over es f i [] e = rw (none-left es i e)
 over es f i (zero ∷ s) e = let (l, q) = rest es i 0 s e in rw (lt-ltb i (length es) l, q)
 over es f i (suc x ∷ s) e = rw eqb·suc-zero (over es f (i + 1) s (rest es i (suc x) s e .1))
 
--- ---- the rows behind a row
+-- ---- the members behind a member
 
 module _ (es : List ℕ) (n : ℕ) (e : length es ≡ n) where
-  pub next-family : (f i r : ℕ) → r ≡ seek 0 i (drop i es) → rowsLeft n es (turn r r f 1) ≡ familiesFrom es i f
+  pub next-family : (f i r : ℕ) → r ≡ seek 0 i (drop i es) → membersLeft n es (turn r r f 1) ≡ familiesFrom es i f
   next-family f i r q = rw (← e, q) (over es f i (drop i es) refl)
 
   -- they begin with the first order of a family, or there is none
-  pub family-rows : (f i r : ℕ) → r ≡ seek 0 i (drop i es) → r < n → rowsFrom es (turn r r f 1) ≡ familiesFrom es i f
-  family-rows f i r q h = rw (lt-ltb r n h) at (next-family f i r q)
+  pub family-members : (f i r : ℕ) → r ≡ seek 0 i (drop i es) → r < n → membersFrom es (turn r r f 1) ≡ familiesFrom es i f
+  family-members f i r q h = rw (lt-ltb r n h) at (next-family f i r q)
 
   pub family-none : (f i r : ℕ) → r ≡ seek 0 i (drop i es) → n ≤ r → familiesFrom es i f ≡ []
   family-none f i r q h = sym (rw (le-ltb r n h) at (next-family f i r q))
 
   module _ (x : Turn) (y : ℕ) (q : y ≡ seek (x .place + 1) (x .place + 1) (drop (x .place + 1) es)) where
-    -- what stands below a row, by what the search for its order's number found
+    -- what stands below a member, by what the search for its order's number found
     found : cond (ltb y n) (member (x .family) (x .rank + 1) y ∷ below (x .family) (x .rank + 1) y (y + 1) (drop (y + 1) es)) []
         ≡ below (x .family) (x .rank) (x .place) (x .place + 1) (drop (x .place + 1) es)
     found = rw (← e, q) (down es (x .family) (x .rank) (x .place) (x .place + 1) (drop (x .place + 1) es) refl)
 
-    pub younger-rows : y < n → rowsFrom es (turn (x .root) y (x .family) (x .rank + 1)) ≡ rowsBehind es x
-    younger-rows h = ap (λ (l : List Member). l ++ familiesFrom es (x .root + 1) (x .family + 1)) (rw (lt-ltb y n h) at found)
+    pub younger-members : y < n → membersFrom es (turn (x .root) y (x .family) (x .rank + 1)) ≡ membersBehind es x
+    younger-members h = ap (λ (l : List Member). l ++ familiesFrom es (x .root + 1) (x .family + 1)) (rw (lt-ltb y n h) at found)
 
-    pub last-rows : n ≤ y → familiesFrom es (x .root + 1) (x .family + 1) ≡ rowsBehind es x
-    last-rows h = ap (λ (l : List Member). l ++ familiesFrom es (x .root + 1) (x .family + 1)) (rw (le-ltb y n h) at found)
+    pub last-members : n ≤ y → familiesFrom es (x .root + 1) (x .family + 1) ≡ membersBehind es x
+    last-members h = ap (λ (l : List Member). l ++ familiesFrom es (x .root + 1) (x .family + 1)) (rw (le-ltb y n h) at found)
 
-    pub younger-turn : y < n → rowsLeft n es (turn (x .root) y (x .family) (x .rank + 1)) ≡ rowsBehind es x
-    younger-turn h = rw (lt-ltb y n h) (younger-rows h)
+    pub younger-turn : y < n → membersLeft n es (turn (x .root) y (x .family) (x .rank + 1)) ≡ membersBehind es x
+    younger-turn h = rw (lt-ltb y n h) (younger-members h)
 
     pub last-turn : n ≤ y → (r : ℕ) → r ≡ seek 0 (x .root + 1) (drop (x .root + 1) es)
-        → rowsLeft n es (turn r r (x .family + 1) 1) ≡ rowsBehind es x
-    last-turn h r p = next-family (x .family + 1) (x .root + 1) r p ∙ last-rows h
+        → membersLeft n es (turn r r (x .family + 1) 1) ≡ membersBehind es x
+    last-turn h r p = next-family (x .family + 1) (x .root + 1) r p ∙ last-members h
 
 pub first-stands : (n f i r : ℕ) (es : List ℕ) → f ≤ i + 1 → r ≡ seek 0 i (drop i es) → r < n → Stands n (turn r r f 1)
 first-stands n f i r es g q h =

@@ -1,4 +1,4 @@
--- The listing as it is walked: where the walk stands, and the rows that are left from there.
+-- The listing as it is walked: where the walk stands, and the members that are left from there.
 use Prim.Native.Nat.{ℕ, zero, suc, _+_, _≤_, _<_}
 use mathlib.Core.Bool.{cond}
 use mathlib.Core.List.{List, [], _∷_, _++_}
@@ -37,21 +37,21 @@ abbrev pub familiesFrom : List ℕ → ℕ → ℕ → List Member
 familiesFrom es i f = families f i (drop i es)
 
 -- below the member where the walk stands, and the families behind
-abbrev pub rowsBehind : List ℕ → Turn → List Member
-rowsBehind es x =
+abbrev pub membersBehind : List ℕ → Turn → List Member
+membersBehind es x =
     below (x .family) (x .rank) (x .place) (x .place + 1) (drop (x .place + 1) es) ++ familiesFrom es (x .root + 1) (x .family + 1)
 
 -- from the member where the walk stands on
-abbrev pub rowsFrom : List ℕ → Turn → List Member
-rowsFrom es x = member (x .family) (x .rank) (x .place) ∷ rowsBehind es x
+abbrev pub membersFrom : List ℕ → Turn → List Member
+membersFrom es x = member (x .family) (x .rank) (x .place) ∷ membersBehind es x
 
 -- and none where it stands behind the last of n orders
-abbrev pub rowsLeft : ℕ → List ℕ → Turn → List Member
-rowsLeft n es x = cond (ltb (x .place) n) (rowsFrom es x) []
+abbrev pub membersLeft : ℕ → List ℕ → Turn → List Member
+membersLeft n es x = cond (ltb (x .place) n) (membersFrom es x) []
 
 -- as text, of the first n orders
 abbrev pub membersText : ℕ → List ℕ → Turn → List ℕ
-membersText n s x = walkText (ordersIn 0 n s) (rowsFrom (eldersIn n s) x)
+membersText n s x = walkText (ordersIn 0 n s) (membersFrom (eldersIn n s) x)
 
 abbrev pub familiesText : ℕ → List ℕ → ℕ → ℕ → List ℕ
 familiesText n s i f = walkText (ordersIn 0 n s) (familiesFrom (eldersIn n s) i f)

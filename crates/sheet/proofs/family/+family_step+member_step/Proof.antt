@@ -8,11 +8,11 @@ use borrow.Fn.PlainCycle.{Measures, is, falls, and}
 use denote.Ref.{now}
 use lib.ListN.{length}
 use Rattle.row.proofs.write.Reads as write-reads
-use Rattle.sheet.specs.Walk.{eldersIn, familiesFrom, familiesText, membersText, rowsFrom}
+use Rattle.sheet.specs.Walk.{eldersIn, familiesFrom, familiesText, membersText, membersFrom}
 use Rattle.sheet.proofs.Joining.{keeps-length}
 use Rattle.sheet.proofs.Seeking.{length-elders-in}
 use Rattle.sheet.proofs.Stepping.{both-texts, family-text, last-text, no-text, row-inside, row-room, text-room, younger-text}
-use Rattle.sheet.proofs.Turning.{turn, family-rows, first-stands, last-rows, younger-rows, younger-stands}
+use Rattle.sheet.proofs.Turning.{turn, family-members, first-stands, last-members, younger-members, younger-stands}
 use Rattle.sheet.proofs.family.family_step.Reads as family-step
 use Rattle.sheet.proofs.family.family_step.Kinds as family-step-kinds
 use Rattle.sheet.proofs.family.+family_step+member_step.Lts-family_step as family-step-lts
@@ -27,7 +27,7 @@ abbrev μ-family-step : Measures 2 family-step-kinds.ps ℕ
 μ-family-step κs a = length (familiesFrom (eldersIn (a .1 .0) (a .0 .now)) (a .1 .1 .0) (a .1 .1 .1 .0)) * 2 + 1
 
 abbrev μ-member-step : Measures 2 member-step-kinds.ps ℕ
-μ-member-step κs a = length (rowsFrom (eldersIn (a .1 .0) (a .0 .now)) (a .1 .1 .0)) * 2
+μ-member-step κs a = length (membersFrom (eldersIn (a .1 .0) (a .0 .now)) (a .1 .1 .0)) * 2
 
 -- what each is given at the measure t, and what a call of it asks below t
 abbrev family-step-at : ℕ → In 2 family-step-kinds.ps
@@ -74,7 +74,7 @@ family-step-member-step-requires t c κs =
     let es = eldersIn (a .n) (now (a .t)) in
     let q = c .before .before .seek in
     let h : q .result < a .n = c .before .if1 .left in
-    let rows = family-rows es (a .n) (length-elders-in (a .n) (now (a .t))) (a .family) (a .from) (q .result) (q .ensures) h in
+    let rows = family-members es (a .n) (length-elders-in (a .n) (now (a .t))) (a .family) (a .from) (q .result) (q .ensures) h in
     let text = family-text (a .n) (now (a .t)) (a .family) (a .from) (q .result) (q .ensures) h in
     let stands = first-stands (a .n) (a .family) (a .from) (q .result) es (m .pre .1 .1 .1 .0) (q .ensures) h in
     (omega (arith, ap length rows, m .pre .0), (m .pre .1 .0, (stands, rw text (m .pre .1 .1 .1 .1))))
@@ -136,7 +136,7 @@ member-step-member-step-requires t c κs =
     let w = c .before .before .before .before .before .before .before .write in
     let y = c .before .before .before .seek in
     let h = c .before .before .if1 .taken in
-    let rows = younger-rows es (a .n) (length-elders-in (a .n) (now (a .t))) (a .x) (y .result) (y .ensures) h in
+    let rows = younger-members es (a .n) (length-elders-in (a .n) (now (a .t))) (a .x) (y .result) (y .ensures) h in
     let text = younger-text (a .n) (now (a .t)) (a .x) (y .result) (y .ensures) h in
     let stands = younger-stands (a .n) es (a .x) (y .result) (m .pre .1 .1 .0) (y .ensures) h in
     let room = text-room (a .n) (now (a .t)) (a .x) (now (a .out)) (m .pre .1 .1 .0) (m .pre .1 .1 .1) (w .ensures)
@@ -198,7 +198,7 @@ member-step-family-step-requires t c κs =
     let w = c .before .before .before .before .before .before .before .before .write in
     let y = c .before .before .before .before .seek in
     let h = c .before .before .before .if1 .left in
-    let rows = last-rows (eldersIn (a .n) (now (a .t))) (a .n) (length-elders-in (a .n) (now (a .t))) (a .x) (y .result) (y .ensures) h in
+    let rows = last-members (eldersIn (a .n) (now (a .t))) (a .n) (length-elders-in (a .n) (now (a .t))) (a .x) (y .result) (y .ensures) h in
     let text = last-text (a .n) (now (a .t)) (a .x) (y .result) (y .ensures) h in
     let room = text-room (a .n) (now (a .t)) (a .x) (now (a .out)) (m .pre .1 .1 .0) (m .pre .1 .1 .1) (w .ensures)
     (familiesText (a .n) (now (a .t)) (a .x .root + 1) (a .x .family + 1)) text in

@@ -1,8 +1,8 @@
 -- `sheet::room::rows_fit` meets its contract: the rows left fit into the space left exactly when all rows fit into all of it.
 use lib.ListN.{length}
 use borrow.Author.Needs.{needs}
-use Rattle.sheet.specs.Walk.{eldersIn, rowsLeft}
-use Rattle.sheet.proofs.Fitting.{Fitting, fitting-first, fitting-next, rows-fall, no-space, all-fit}
+use Rattle.sheet.specs.Walk.{eldersIn, membersLeft}
+use Rattle.sheet.proofs.Fitting.{Fitting, fitting-first, fitting-next, members-fall, no-space, all-fit}
 use Rattle.sheet.proofs.room.rows_fit.Statement.{statement}
 use Rattle.sheet.proofs.room.rows_fit.Tie as tie
 
@@ -10,7 +10,7 @@ abbrev Inv-loop : tie.InvT-loop
 Inv-loop t n space left₀ x₀ left x = Fitting t n space left x
 
 abbrev μ-loop : tie.MeasureT-loop
-μ-loop t n space left₀ x₀ left x = length (rowsLeft n (eldersIn n t) x)
+μ-loop t n space left₀ x₀ left x = length (membersLeft n (eldersIn n t) x)
 
 start-requires : tie.Need-start-requires Inv-loop μ-loop
 start-requires c κs = search needs
@@ -28,7 +28,7 @@ next-requires : tie.Need-next-requires Inv-loop μ-loop
 next-requires c κs = (search needs, c .before .before .before .before .loop .inv .stands (search needs))
 
 loop-less : tie.Need-loop-less Inv-loop μ-loop
-loop-less c = rows-fall (c .before .before .before .before .before .loop .inv) (search needs) (c .next .result) (c .next .ensures .0)
+loop-less c = members-fall (c .before .before .before .before .before .loop .inv) (search needs) (c .next .result) (c .next .ensures .0)
 
 loop-again : tie.Need-loop-again Inv-loop μ-loop
 loop-again c =
