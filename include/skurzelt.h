@@ -9,9 +9,6 @@
    use skurzelt_refusal() and skurzelt_field(). A refused call has changed no lent byte and no lent number. Any bytes may be lent, of any length:
    a call always answers.
 
-   Stack. skurzelt_sheet goes a level deeper for each order that it lists: about 300 bytes of stack each, at most
-   152 KiB for a full table (measured in the sheet program, docs/LIMITS.md).
-
    The layouts of a table, of an order in it and of a record are in docs/LAYOUT.md. */
 
 #ifndef SKURZELT_H
@@ -90,8 +87,7 @@ uint32_t skurzelt_order_at(const uint8_t *table, size_t table_length, uint64_t p
 /* Books a piece. Refuses 5, 1, 2, 3, then 6 to 12. */
 uint32_t skurzelt_book(uint8_t *table, size_t table_length, const uint8_t *piece, size_t piece_length);
 
-/* Writes the family sheet into the first *written bytes of out. Refuses 5, then 4 (out too short). Takes about 300 bytes of stack for each order,
-   152 KiB measured for a full table. */
+/* Writes the family sheet into the first *written bytes of out. Refuses 5, then 4 (out too short). */
 uint32_t skurzelt_sheet(const uint8_t *table, size_t table_length, uint8_t *out, size_t out_length, uint64_t *written);
 
 /* ---- texts */

@@ -1,5 +1,4 @@
 // Records of equal width at equal distances in lent bytes. What a record means is not known here.
-ghost use Prim.Native.Nat.{_+_, _≤_};
 ghost use mathlib.Core.Path.{_≡_};
 ghost use lib.ListN.{length};
 ghost use lib.Seq.{sets};

@@ -4,8 +4,10 @@ pub mod Joining
 pub mod Seeking
 -- From one order of the listing to the next
 pub mod Turning
--- The row of one order, then the text behind it
+-- The row of one order, then a stretch of those behind it
 pub mod Stepping
+-- Stretch after stretch is the whole text
+pub mod Stretches
 -- The space left decides as all of it does
 pub mod Fitting
 -- What the walk writes are the rows of the sheet

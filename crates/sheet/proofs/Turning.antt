@@ -5,14 +5,14 @@ use native.Mathlib.Omega.{arith}
 use mathlib.Core.Path.{_≡_, refl, sym, ap, _∙_}
 use mathlib.Core.Bool.{Bool, true, false, cond}
 use mathlib.Core.List.{List, [], _∷_, _++_}
-use borrow.Author.Tests.{lt-ltb, le-ltb}
+use borrow.Author.Tests.{lt-ltb, le-ltb, ltb-false, ltb-true}
 use lib.Dec.{ltb, eqb, eqb·suc-zero}
 use lib.ListN.{length, drop, length-drop}
 use lib.Seq.{drop-cons}
 use Rattle.day.specs.Listing.{Member}
 use Rattle.day.specs.Walk.{member, below, families}
 use Rattle.day.proofs.Listings.{by-test}
-use Rattle.sheet.specs.Walk.{Stands, familiesFrom, membersBehind, membersFrom, membersLeft, seek}
+use Rattle.sheet.specs.Walk.{Stands, StandsOrEnds, familiesFrom, membersBehind, membersFrom, membersLeft, seek, youngerOf}
 use Rattle.sheet.specs.declared.Turn.{Turn}
 
 -- what is found lies behind the place where the search began, or there
@@ -57,45 +57,75 @@ over es f i [] e = rw (none-left es i e)
 over es f i (zero ∷ s) e = let (l, q) = rest es i 0 s e in rw (lt-ltb i (length es) l, q)
 over es f i (suc x ∷ s) e = rw eqb·suc-zero (over es f (i + 1) s (rest es i (suc x) s e .1))
 
--- ---- the members behind a member
+-- ---- the members from a place on, by the first order of a family that is found there
 
 module _ (es : List ℕ) (n : ℕ) (e : length es ≡ n) where
-  pub next-family : (f i r : ℕ) → r ≡ seek 0 i (drop i es) → membersLeft n es (turn r r f 1) ≡ familiesFrom es i f
-  next-family f i r q = rw (← e, q) (over es f i (drop i es) refl)
+  module _ (f i r : ℕ) (q : r ≡ seek 0 i (drop i es)) where
+    pub next-family : membersLeft n es (turn r r f 1) ≡ familiesFrom es i f
+    next-family = rw (← e, q) (over es f i (drop i es) refl)
 
-  -- they begin with the first order of a family, or there is none
-  pub family-members : (f i r : ℕ) → r ≡ seek 0 i (drop i es) → r < n → membersFrom es (turn r r f 1) ≡ familiesFrom es i f
-  family-members f i r q h = rw (lt-ltb r n h) at (next-family f i r q)
+    pub family-members : r < n → membersFrom es (turn r r f 1) ≡ familiesFrom es i f
+    family-members h = rw (lt-ltb r n h) at next-family
 
-  pub family-none : (f i r : ℕ) → r ≡ seek 0 i (drop i es) → n ≤ r → familiesFrom es i f ≡ []
-  family-none f i r q h = sym (rw (le-ltb r n h) at (next-family f i r q))
+    pub family-none : n ≤ r → familiesFrom es i f ≡ []
+    family-none h = sym (rw (le-ltb r n h) at next-family)
 
-  module _ (x : Turn) (y : ℕ) (q : y ≡ seek (x .place + 1) (x .place + 1) (drop (x .place + 1) es)) where
-    -- what stands below a member, by what the search for its order's number found
-    found : cond (ltb y n) (member (x .family) (x .rank + 1) y ∷ below (x .family) (x .rank + 1) y (y + 1) (drop (y + 1) es)) []
+    pub first-stands : f ≤ i + 1 → StandsOrEnds n (turn r r f 1)
+    first-stands g h =
+        let l : i ≤ r = rw q (seek-from 0 i (drop i es)) in
+        record { inside = h; below-root = omega arith; numbered = omega arith; ranked = omega arith }
+
+  -- ---- the members behind a member, by its younger order
+
+  module _ (x : Turn) (y : ℕ) (q : y ≡ youngerOf es (x .place)) where
+    abbrev found : ℕ
+    found = seek (x .place + 1) (x .place + 1) (drop (x .place + 1) es)
+
+    one-on : x .place + 1 ≤ found
+    one-on = seek-from (x .place + 1) (x .place + 1) (drop (x .place + 1) es)
+
+    by-found : y ≡ cond (ltb found n) found 0
+    by-found = q ∙ ap (λ (k : ℕ). cond (ltb found k) found 0) e
+
+    has-younger : 0 < y → (y ≡ found) × (y < n)
+    has-younger h = go (ltb found n) refl by-found
+      where
+        go : (t : Bool) → ltb found n ≡ t → y ≡ cond t found 0 → (y ≡ found) × (y < n)
+        go true l p = (p, omega (arith, ltb-true found n l))
+        go false l p = absurd (omega arith)
+
+    is-youngest : y ≤ 0 → n ≤ found
+    is-youngest h = go (ltb found n) refl by-found
+      where
+        go : (t : Bool) → ltb found n ≡ t → y ≡ cond t found 0 → n ≤ found
+        go true l p = absurd (omega (arith, one-on))
+        go false l p = ltb-false found n l
+
+    -- the members below it, by what the search for its number found
+    below-by : (z : ℕ) → z ≡ found → downFrom es (x .family) (x .rank + 1) z
         ≡ below (x .family) (x .rank) (x .place) (x .place + 1) (drop (x .place + 1) es)
-    found = rw (← e, q) (down es (x .family) (x .rank) (x .place) (x .place + 1) (drop (x .place + 1) es) refl)
+    below-by z p = rw p (down es (x .family) (x .rank) (x .place) (x .place + 1) (drop (x .place + 1) es) refl)
 
-    pub younger-members : y < n → membersFrom es (turn (x .root) y (x .family) (x .rank + 1)) ≡ membersBehind es x
-    younger-members h = ap (λ (l : List Member). l ++ familiesFrom es (x .root + 1) (x .family + 1)) (rw (lt-ltb y n h) at found)
+    pub younger-members : 0 < y → membersFrom es (turn (x .root) y (x .family) (x .rank + 1)) ≡ membersBehind es x
+    younger-members h =
+        let k = has-younger h in
+        ap (λ (l : List Member). l ++ familiesFrom es (x .root + 1) (x .family + 1))
+        (rw (lt-ltb y (length es) (omega arith)) at (below-by y (k .0)))
 
-    pub last-members : n ≤ y → familiesFrom es (x .root + 1) (x .family + 1) ≡ membersBehind es x
-    last-members h = ap (λ (l : List Member). l ++ familiesFrom es (x .root + 1) (x .family + 1)) (rw (le-ltb y n h) at found)
+    pub last-members : y ≤ 0 → familiesFrom es (x .root + 1) (x .family + 1) ≡ membersBehind es x
+    last-members h =
+        let k = is-youngest h in
+        ap (λ (l : List Member). l ++ familiesFrom es (x .root + 1) (x .family + 1))
+        (rw (le-ltb found (length es) (omega arith)) at (below-by found refl))
 
-    pub younger-turn : y < n → membersLeft n es (turn (x .root) y (x .family) (x .rank + 1)) ≡ membersBehind es x
-    younger-turn h = rw (lt-ltb y n h) (younger-members h)
+    pub younger-stands : Stands n x → 0 < y → Stands n (turn (x .root) y (x .family) (x .rank + 1))
+    younger-stands w h =
+        let k = has-younger h in
+        let l : x .place + 1 ≤ y = omega (arith, one-on) in
+        record { inside = k .1; below-root = omega arith; numbered = w .numbered; ranked = omega arith }
 
-    pub last-turn : n ≤ y → (r : ℕ) → r ≡ seek 0 (x .root + 1) (drop (x .root + 1) es)
-        → membersLeft n es (turn r r (x .family + 1) 1) ≡ membersBehind es x
+    pub younger-turn : 0 < y → membersLeft n es (turn (x .root) y (x .family) (x .rank + 1)) ≡ membersBehind es x
+    younger-turn h = rw (lt-ltb y n (has-younger h .1)) (younger-members h)
+
+    pub last-turn : y ≤ 0 → (r : ℕ) → r ≡ seek 0 (x .root + 1) (drop (x .root + 1) es) → membersLeft n es (turn r r (x .family + 1) 1) ≡ membersBehind es x
     last-turn h r p = next-family (x .family + 1) (x .root + 1) r p ∙ last-members h
-
-pub first-stands : (n f i r : ℕ) (es : List ℕ) → f ≤ i + 1 → r ≡ seek 0 i (drop i es) → r < n → Stands n (turn r r f 1)
-first-stands n f i r es g q h =
-    let l : i ≤ r = rw q (seek-from 0 i (drop i es)) in
-    record { inside = h; below-root = omega arith; numbered = omega arith; ranked = omega arith }
-
-pub younger-stands : (n : ℕ) (es : List ℕ) (x : Turn) (y : ℕ) → Stands n x → y ≡ seek (x .place + 1) (x .place + 1) (drop (x .place + 1) es) → y < n
-    → Stands n (turn (x .root) y (x .family) (x .rank + 1))
-younger-stands n es x y w q h =
-    let l : x .place + 1 ≤ y = rw q (seek-from (x .place + 1) (x .place + 1) (drop (x .place + 1) es)) in
-    record { inside = h; below-root = omega arith; numbered = w .numbered; ranked = omega arith }

@@ -1,15 +1,18 @@
 -- The listing as it is walked: where the walk stands, and the members that are left from there.
 use Prim.Native.Nat.{ℕ, zero, suc, _+_, _≤_, _<_}
+use mathlib.Core.Path.{_≡_}
 use mathlib.Core.Bool.{cond}
 use mathlib.Core.List.{List, [], _∷_, _++_}
 use lib.Dec.{ltb, eqb}
-use lib.ListN.{drop}
+use lib.ListN.{drop, length, take}
 use Rattle.order.specs.declared.Order.{Order}
 use Rattle.day.specs.Damage.{eldersOf}
 use Rattle.day.specs.Listing.{Member}
 use Rattle.day.specs.Walk.{member, below, families}
 use Rattle.row.specs.Texts.{orderText}
+use Rattle.row.specs.Writes.{Wrote}
 use Rattle.slot.specs.Places.{ordersIn}
+use Rattle.sheet.specs.declared.Stretch.{Stretch}
 use Rattle.sheet.specs.declared.Turn.{Turn}
 
 -- the row of the order at a place, as text
@@ -32,6 +35,10 @@ abbrev pub seek : ℕ → ℕ → List ℕ → ℕ
 seek e j [] = j
 seek e j (x ∷ es) = cond (eqb x e) j (seek e (j + 1) es)
 
+-- the younger order of the one at place i, or 0: the first order is nobody's younger one
+abbrev pub youngerOf : List ℕ → ℕ → ℕ
+youngerOf es i = let y = seek (i + 1) (i + 1) (drop (i + 1) es) in cond (ltb y (length es)) y 0
+
 -- families from place i on, the first of them numbered f
 abbrev pub familiesFrom : List ℕ → ℕ → ℕ → List Member
 familiesFrom es i f = families f i (drop i es)
@@ -49,9 +56,13 @@ membersFrom es x = member (x .family) (x .rank) (x .place) ∷ membersBehind es 
 abbrev pub membersLeft : ℕ → List ℕ → Turn → List Member
 membersLeft n es x = cond (ltb (x .place) n) (membersFrom es x) []
 
--- as text, of the first n orders
-abbrev pub membersText : ℕ → List ℕ → Turn → List ℕ
-membersText n s x = walkText (ordersIn 0 n s) (membersFrom (eldersIn n s) x)
+-- as text, of the first n orders: so many of these members, or all where they are fewer
+abbrev pub stretchText : ℕ → List ℕ → ℕ → List Member → List ℕ
+stretchText n s most members = walkText (ordersIn 0 n s) (take most members)
+
+-- so many of those that are left
+abbrev pub textLeft : ℕ → List ℕ → ℕ → Turn → List ℕ
+textLeft n s most x = stretchText n s most (membersLeft n (eldersIn n s) x)
 
 abbrev pub familiesText : ℕ → List ℕ → ℕ → ℕ → List ℕ
 familiesText n s i f = walkText (ordersIn 0 n s) (familiesFrom (eldersIn n s) i f)
@@ -62,3 +73,13 @@ pub record Stands (n : ℕ) (x : Turn) : Type 0 where
   pub below-root : x .root ≤ x .place
   pub numbered : x .family ≤ x .root + 1
   pub ranked : x .rank ≤ x .place + 1
+
+-- or behind the last of them
+abbrev pub StandsOrEnds : ℕ → Turn → Type 0
+StandsOrEnds n x = x .place < n → Stands n x
+
+-- so many of these members were written, and the walk stands where the others begin
+pub record Went (n : ℕ) (s : List ℕ) (members : List Member) (most : ℕ) (before after : List ℕ) (r : Stretch) : Type 0 where
+  pub text : Wrote (stretchText n s most members) before after (r .wrote)
+  pub left : membersLeft n (eldersIn n s) (r .next) ≡ drop most members
+  pub stands : StandsOrEnds n (r .next)

@@ -27,6 +27,12 @@ struct Turn {
     rank: u64,
 }
 
+// Some rows: how many bytes were written, and where the walk then stands.
+struct Stretch {
+    wrote: usize,
+    next: Turn,
+}
+
 // Any bytes for a table, any buffer. On a refusal not one byte is changed.
 pub fn write(t: &[u8], out: &mut [u8]) -> Writing
     ensures { λ x. ⌜ Sheets (now (t .entry)) (now (out .entry)) x (now (out .exit)) ⌝ }
@@ -48,10 +54,11 @@ pub fn write_sound(t: &[u8], out: &mut [u8]) -> Writing
     if out.len() < head {
         return Writing::Refused(Refusal::NoRoom);
     }
-    if !room::rows_fit(t, n, out.len() - head) {
+    let first = walk::start(t, n);
+    if !room::rows_fit(t, n, first, n, out.len() - head) {
         return Writing::Refused(Refusal::NoRoom);
     }
     let wrote = heading::write(n as u64, families, out);
-    let rows = family::family_step(t, n, 0, 1, &mut out[wrote..]);
+    let rows = family::rows(t, n, first, n, &mut out[wrote..]);
     Writing::Done(wrote + rows)
 }

@@ -4,22 +4,29 @@ ghost use mathlib.Core.Path.{_≡_};
 ghost use lib.Dec.{leb};
 ghost use lib.ListN.{length};
 ghost use Rattle.slot.specs.Places.{slotAt};
-ghost use Rattle.sheet.specs.Walk.{familiesText};
+ghost use Rattle.sheet.specs.Walk.{StandsOrEnds, textLeft};
+use crate::Turn;
 use crate::walk;
 
 // Each row's length is taken from the space that is left, so that there is no sum to grow.
-pub fn rows_fit(t: &[u8], n: usize, space: usize) -> bool
+pub fn rows_fit(t: &[u8], n: usize, first: Turn, most: usize, space: usize) -> bool
     requires { ⌜ slotAt n ≤ length (now t) ⌝ }
-    ensures { λ r. ⌜ r ≡ leb (length (familiesText n (now (t .entry)) 0 1)) space ⌝ }
+    requires { ⌜ StandsOrEnds n first ⌝ }
+    ensures { λ r. ⌜ r ≡ leb (length (textLeft n (now (t .entry)) most first)) space ⌝ }
 {
-    let mut left = space;
-    let mut x = walk::start(t, n);
-    while x.place < n {
+    let mut free = space;
+    let mut left = most;
+    let mut x = first;
+    while 0 < left {
+        if n <= x.place {
+            return true;
+        }
         let long = row::length(t, x.place, x.family, x.rank);
-        if left < long {
+        if free < long {
             return false;
         }
-        left -= long;
+        free -= long;
+        left -= 1;
         x = walk::next(t, n, x);
     }
     true

@@ -4,7 +4,7 @@ ghost use mathlib.Core.Path.{_≡_};
 ghost use lib.ListN.{length, drop};
 ghost use Rattle.day.specs.Walk.{families, rootCount};
 ghost use Rattle.slot.specs.Places.{slotAt};
-ghost use Rattle.sheet.specs.Walk.{Stands, eldersIn, membersBehind, membersLeft, seek as Walk·seek};
+ghost use Rattle.sheet.specs.Walk.{Stands, StandsOrEnds, eldersIn, membersBehind, membersLeft, seek as Walk·seek, youngerOf};
 use crate::Turn;
 
 // The first of n orders, from a place on, that has the elder e (1 is the first order, 0 is none), or n. A younger order is always later.
@@ -39,11 +39,24 @@ pub fn count_roots(t: &[u8], n: usize) -> u64
     roots
 }
 
+// The younger order of the one at a place, or 0: the first order is nobody's younger one.
+pub fn younger(t: &[u8], n: usize, i: usize) -> usize
+    requires { ⌜ slotAt n ≤ length (now t) ⌝ }
+    requires { ⌜ i < n ⌝ }
+    ensures { λ r. ⌜ r ≡ youngerOf (eldersIn n (now (t .entry))) i ⌝ }
+{
+    let found = seek(t, n, i + 1, i as u64 + 1);
+    if found < n {
+        return found;
+    }
+    0
+}
+
 // Where the walk starts: at the first order that has no elder.
 pub fn start(t: &[u8], n: usize) -> Turn
     requires { ⌜ slotAt n ≤ length (now t) ⌝ }
     ensures { λ x. ⌜ membersLeft n (eldersIn n (now (t .entry))) x ≡ families 1 0 (eldersIn n (now (t .entry))) ⌝ }
-    ensures { λ x. ⌜ (x .place < n → Stands n x) ⌝ }
+    ensures { λ x. ⌜ StandsOrEnds n x ⌝ }
 {
     let root = seek(t, n, 0, 0);
     Turn {
@@ -59,10 +72,10 @@ pub fn next(t: &[u8], n: usize, x: Turn) -> Turn
     requires { ⌜ slotAt n ≤ length (now t) ⌝ }
     requires { ⌜ Stands n x ⌝ }
     ensures { λ y. ⌜ membersLeft n (eldersIn n (now (t .entry))) y ≡ membersBehind (eldersIn n (now (t .entry))) x ⌝ }
-    ensures { λ y. ⌜ (y .place < n → Stands n y) ⌝ }
+    ensures { λ y. ⌜ StandsOrEnds n y ⌝ }
 {
-    let younger = seek(t, n, x.place + 1, x.place as u64 + 1);
-    if younger < n {
+    let younger = younger(t, n, x.place);
+    if 0 < younger {
         return Turn {
             root: x.root,
             place: younger,

@@ -1,5 +1,4 @@
 // An order read from the 80 bytes of its slot, by value.
-ghost use Prim.Native.Nat.{_+_, _≤_};
 ghost use mathlib.Core.Path.{_≡_};
 ghost use lib.ListN.{length};
 ghost use Rattle.slot.specs.Slots.{orderIn, keyIn, seriesIn, figuresIn};

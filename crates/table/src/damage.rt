@@ -1,5 +1,5 @@
 // The damage check: whether a lent slice of bytes says an undamaged table.
-ghost use Prim.Native.Nat.{_+_, _≤_, _<_};
+ghost use Prim.Native.Nat.{_≤_, _<_};
 ghost use mathlib.Core.Path.{_≡_};
 ghost use lib.ListN.{length};
 ghost use Rattle.table.specs.Passing.{elderFits, roomIn, slotFits};

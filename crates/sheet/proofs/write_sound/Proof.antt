@@ -4,7 +4,7 @@ use borrow.Author.Needs.{needs}
 use borrow.Author.Tests.{not-true, not-false}
 use denote.Ref.{now}
 use Rattle.table.proofs.Whole.{whole}
-use Rattle.sheet.proofs.Answering.{no-heading, no-rows, rows-room, sheet-written, slots-inside, written-inside, written-kept}
+use Rattle.sheet.proofs.Answering.{Measured, no-heading, no-rows, rows-room, sheet-written, slots-inside, written-inside, written-kept}
 use Rattle.sheet.proofs.write_sound.Statement.{statement}
 use Rattle.sheet.proofs.write_sound.Tie as tie
 
@@ -17,79 +17,71 @@ count-roots-requires c κs = slots-inside (now (c .before .before .before .args 
 length-requires : tie.Need-length-requires
 length-requires c κs = search needs
 
+measured : (c : tie.After-length)
+    → Measured (now (c .before .before .before .before .before .args .t)) (c .before .before .count .result) (c .before .count-roots .result) (c .length .result)
+measured c =
+    record {
+      good = c .before .before .before .before .before .pre;
+      count = c .before .before .count .ensures;
+      roots = c .before .count-roots .ensures;
+      long = c .length .ensures;
+    }
+
 returns : tie.Need-returns
-returns c =
-    let m = c .before .before .before .before .before .before in
-    let a = m .args in
-    let n = c .before .before .before .count in
-    let f = c .before .before .count-roots in
-    let h = c .before .length in
-    no-heading (now (a .t)) (now (a .out)) (m .pre) (n .result) (f .result) (h .result) (n .ensures) (f .ensures) (h .ensures) (c .if1 .taken)
+returns c = no-heading (measured (c .before)) (now (c .before .before .before .before .before .before .args .out)) (c .if1 .taken)
+
+start-requires : tie.Need-start-requires
+start-requires c κs =
+    let m = measured (c .before) in
+    slots-inside (now (c .before .before .before .before .before .before .args .t)) (c .before .before .before .count .result) (m .good) (m .count)
 
 sub-rows-fit : tie.Need-sub-rows-fit
 sub-rows-fit c = search needs
 
 rows-fit-requires : tie.Need-rows-fit-requires
 rows-fit-requires c κs =
-    let m = c .before .before .before .before .before .before in
-    let n = c .before .before .before .count in
-    slots-inside (now (m .args .t)) (n .result) (m .pre) (n .ensures)
+    let m = measured (c .before .before) in
+    (slots-inside (now (c .before .before .before .before .before .before .before .args .t)) (c .before .before .before .before .count .result) (m .good) (m .count), c .start .ensures .1)
 
 returns-2 : tie.Need-returns-2
 returns-2 c =
-    let m = c .before .before .before .before .before .before .before .before in
-    let a = m .args in
-    let n = c .before .before .before .before .before .count in
-    let f = c .before .before .before .before .count-roots in
-    let h = c .before .before .before .length in
-    let l = c .before .before .if1 .left in
+    let x = c .before .before .start in
     let r = c .before .rows-fit in
-    no-rows (now (a .t)) (now (a .out)) (m .pre) (n .result) (f .result) (h .result) (n .ensures) (f .ensures) (h .ensures) l (r .result) (r .ensures)
+    no-rows (measured (c .before .before .before .before)) (now (c .before .before .before .before .before .before .before .before .before .args .out)) (x .result) (x .ensures .0) (c .before .before .before .if1 .left) (r .result) (r .ensures)
     (not-true (r .result) (c .if2 .taken))
 
 write-requires : tie.Need-write-requires
 write-requires c κs = search needs
 
-sub-family-step : tie.Need-sub-family-step
-sub-family-step c = search needs
+sub-rows : tie.Need-sub-rows
+sub-rows c = search needs
 
-part-family-step-start : tie.Need-part-family-step-start
-part-family-step-start c = search needs
+part-rows-start : tie.Need-part-rows-start
+part-rows-start c = search needs
 
-part-family-step-end : tie.Need-part-family-step-end
-part-family-step-end c = search needs
+part-rows-end : tie.Need-part-rows-end
+part-rows-end c = search needs
 
-family-step-requires : tie.Need-family-step-requires
-family-step-requires c κs =
-    let m = c .before .before .before .before .before .before .before .before .before .before .before .before .before in
-    let a = m .args in
-    let n = c .before .before .before .before .before .before .before .before .before .before .count in
-    let f = c .before .before .before .before .before .before .before .before .before .count-roots in
-    let h = c .before .before .before .before .before .before .before .before .length in
-    let l = c .before .before .before .before .before .before .before .if1 .left in
+rows-requires : tie.Need-rows-requires
+rows-requires c κs =
+    let m = measured (c .before .before .before .before .before .before .before .before .before) in
+    let a = c .before .before .before .before .before .before .before .before .before .before .before .before .before .before .args in
+    let x = c .before .before .before .before .before .before .before .start in
     let r = c .before .before .before .before .before .before .rows-fit in
-    let room = rows-room (now (a .t)) (now (a .out)) (m .pre) (n .result) (f .result) (h .result) (n .ensures) (f .ensures) (h .ensures) l (r .result) (r .ensures)
+    let room = rows-room m (now (a .out)) (x .result) (x .ensures .0) (c .before .before .before .before .before .before .before .before .if1 .left) (r .result) (r .ensures)
     (not-false (r .result) (c .before .before .before .before .before .if2 .left)) (c .before .before .before .write .ensures) in
-    (slots-inside (now (a .t)) (n .result) (m .pre) (n .ensures), (omega arith, (omega arith, room)))
+    (slots-inside (now (a .t)) (c .before .before .before .before .before .before .before .before .before .before .before .count .result) (m .good) (m .count), (x .ensures .1, room))
 
 -- the heading and the rows behind it are the sheet
 sheet : tie.Need-returns-3
 sheet c =
-    let m = c .before .before .before .before .before .before .before .before .before .before .before .before .before .before .before .before in
-    let a = m .args in
-    let n = c .before .before .before .before .before .before .before .before .before .before .before .before .before .count in
-    let f = c .before .before .before .before .before .before .before .before .before .before .before .before .count-roots in
-    let h = c .before .before .before .before .before .before .before .before .before .before .before .length in
-    let l = c .before .before .before .before .before .before .before .before .before .before .if1 .left in
+    let x = c .before .before .before .before .before .before .before .before .before .before .start in
     let r = c .before .before .before .before .before .before .before .before .before .rows-fit in
-    let t = not-false (r .result) (c .before .before .before .before .before .before .before .before .if2 .left) in
-    sheet-written (now (a .t)) (now (a .out)) (m .pre) (n .result) (f .result) (h .result) (n .ensures) (f .ensures) (h .ensures) l (r .result) (r .ensures) t
-    (c .before .before .before .before .before .before .write .ensures) (c .before .before .family-step .ensures)
+    sheet-written (measured (c .before .before .before .before .before .before .before .before .before .before .before .before)) (now (c .before .before .before .before .before .before .before .before .before .before .before .before .before .before .before .before .before .args .out)) (x .result) (x .ensures .0) (c .before .before .before .before .before .before .before .before .before .before .before .if1 .left) (r .result) (r .ensures)
+    (not-false (r .result) (c .before .before .before .before .before .before .before .before .if2 .left)) (c .before .before .before .before .before .before .write .ensures) (c .before .before .rows .ensures)
 
-add-t12 : tie.Need-add-t12
-add-t12 c =
-    let m = c .before .before .before .before .before .before .before .before .before .before .before .before .before .before .before .before in
-    omega (arith, written-inside (sheet c), m .good .1 .0 .0)
+add-t13 : tie.Need-add-t13
+add-t13 c = omega (arith, written-inside (sheet c), c .before .before .before .before .before .before .before .before .before .before .before .before .before .before .before .before .before .good .1 .0 .0)
 
 same-length : tie.Need-same-length
 same-length c = written-kept (sheet c)
@@ -105,14 +97,15 @@ write-sound-spec =
     count-roots-requires
     length-requires
     returns
+    start-requires
     sub-rows-fit
     rows-fit-requires
     returns-2
     write-requires
-    sub-family-step
-    part-family-step-start
-    part-family-step-end
-    family-step-requires
-    add-t12
+    sub-rows
+    part-rows-start
+    part-rows-end
+    rows-requires
+    add-t13
     same-length
     returns-3)

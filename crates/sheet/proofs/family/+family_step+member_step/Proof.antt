@@ -1,18 +1,18 @@
--- `sheet::family`'s two steps meet their contracts: a row, then the text behind it. The measure is twice the rows left, plus 1 for the family step.
+-- `sheet::family`'s two steps meet their contracts: a row, then a stretch of those behind it. The measure is twice the rows left, plus 1 for the family step.
 use Prim.Native.Nat.{ℕ, _+_, _*_, _<_}
 use native.Mathlib.Omega.{arith}
-use mathlib.Core.Path.{refl, ap}
+use mathlib.Core.Path.{ap}
 use borrow.Author.Needs.{needs}
 use borrow.Fn.Kinds.{In}
 use borrow.Fn.PlainCycle.{Measures, is, falls, and}
 use denote.Ref.{now}
 use lib.ListN.{length}
 use Rattle.row.proofs.write.Reads as write-reads
-use Rattle.sheet.specs.Walk.{eldersIn, familiesFrom, familiesText, membersText, membersFrom}
+use Rattle.sheet.specs.Walk.{eldersIn, familiesFrom, membersFrom}
 use Rattle.sheet.proofs.Joining.{keeps-length}
 use Rattle.sheet.proofs.Seeking.{length-elders-in}
-use Rattle.sheet.proofs.Stepping.{both-texts, family-text, last-text, no-text, row-inside, row-room, text-room, younger-text}
-use Rattle.sheet.proofs.Turning.{turn, family-members, first-stands, last-members, younger-members, younger-stands}
+use Rattle.sheet.proofs.Stepping.{none-left, none-wanted, row-inside, row-room, text-room, went-on}
+use Rattle.sheet.proofs.Turning.{turn, family-none, family-members, first-stands, last-members, younger-members, younger-stands}
 use Rattle.sheet.proofs.family.family_step.Reads as family-step
 use Rattle.sheet.proofs.family.family_step.Kinds as family-step-kinds
 use Rattle.sheet.proofs.family.+family_step+member_step.Lts-family_step as family-step-lts
@@ -22,6 +22,7 @@ use Rattle.sheet.proofs.family.+family_step+member_step.Lts-member_step
 use Rattle.sheet.proofs.family.+family_step+member_step.{statement}
 use Rattle.sheet.proofs.family.+family_step+member_step.Tie.{close}
 use Rattle.sheet.proofs.walk.seek.Reads as seek-reads
+use Rattle.sheet.proofs.walk.younger.Reads as younger-reads
 
 abbrev μ-family-step : Measures 2 family-step-kinds.ps ℕ
 μ-family-step κs a = length (familiesFrom (eldersIn (a .1 .0) (a .0 .now)) (a .1 .1 .0) (a .1 .1 .1 .0)) * 2 + 1
@@ -50,8 +51,8 @@ abbrev member-calls : ℕ → member-step-lts.Claims
 member-calls t = (
   write-reads.Asked,
   write-reads.Learnt,
-  seek-reads.Asked,
-  seek-reads.Learnt,
+  younger-reads.Asked,
+  younger-reads.Learnt,
   member-step-below t,
   member-step.Post,
   family-step-below t,
@@ -64,66 +65,76 @@ family-step-seek-requires t c κs = search needs
 family-step-returns : (t : ℕ) → family-step-lts.Need-returns (family-calls t) (family-step-at t) family-step.Post
 family-step-returns t c =
     let a = c .before .before .before .before .args in
+    let es = eldersIn (a .n) (now (a .t)) in
+    let long = length-elders-in (a .n) (now (a .t)) in
     let q = c .before .seek in
-    rw (no-text (a .n) (now (a .t)) (a .family) (a .from) (q .result) (q .ensures) (c .if1 .taken)) (record { long = refl; out = refl })
+    let h = c .if1 .taken in
+    none-left (a .n) (now (a .t)) (turn (q .result) (q .result) (a .family) 1) (a .most) (now (a .out)) (familiesFrom es (a .from) (a .family)) h
+    (family-none es (a .n) long (a .family) (a .from) (q .result) (q .ensures) h)
 
 family-step-member-step-requires : (t : ℕ) → family-step-lts.Need-member-step-requires (family-calls t) (family-step-at t) family-step.Post
 family-step-member-step-requires t c κs =
     let m = c .before .before .before .before .before in
     let a = m .args in
     let es = eldersIn (a .n) (now (a .t)) in
+    let long = length-elders-in (a .n) (now (a .t)) in
     let q = c .before .before .seek in
     let h : q .result < a .n = c .before .if1 .left in
-    let rows = family-members es (a .n) (length-elders-in (a .n) (now (a .t))) (a .family) (a .from) (q .result) (q .ensures) h in
-    let text = family-text (a .n) (now (a .t)) (a .family) (a .from) (q .result) (q .ensures) h in
-    let stands = first-stands (a .n) (a .family) (a .from) (q .result) es (m .pre .1 .1 .1 .0) (q .ensures) h in
-    (omega (arith, ap length rows, m .pre .0), (m .pre .1 .0, (stands, rw text (m .pre .1 .1 .1 .1))))
+    let rows = family-members es (a .n) long (a .family) (a .from) (q .result) (q .ensures) h in
+    let stands = first-stands es (a .n) long (a .family) (a .from) (q .result) (q .ensures) (m .pre .1 .1 .1 .0) h in
+    (omega (arith, ap length rows, m .pre .0), (m .pre .1 .0, (stands, rw rows (m .pre .1 .1 .1 .1))))
 
 family-step-same-length : (t : ℕ) → family-step-lts.Need-same-length (family-calls t) (family-step-at t) family-step.Post
-family-step-same-length t c = c .before .before .member-step .kept .1 .1 .1 .0
+family-step-same-length t c = c .before .before .member-step .kept .1 .1 .1 .1 .0
 
 family-step-returns-2 : (t : ℕ) → family-step-lts.Need-returns-2 (family-calls t) (family-step-at t) family-step.Post
 family-step-returns-2 t c =
     let a = c .before .before .before .before .before .before .before .before .args in
+    let es = eldersIn (a .n) (now (a .t)) in
+    let long = length-elders-in (a .n) (now (a .t)) in
     let q = c .before .before .before .before .before .seek in
     let h = c .before .before .before .before .if1 .left in
-    rw (family-text (a .n) (now (a .t)) (a .family) (a .from) (q .result) (q .ensures) h) at (c .before .before .member-step .ensures)
+    rw (family-members es (a .n) long (a .family) (a .from) (q .result) (q .ensures) h) at (c .before .before .member-step .ensures)
+
+member-step-returns : (t : ℕ) → member-step-lts.Need-returns (member-calls t) (member-step-at t) member-step.Post
+member-step-returns t c =
+    let m = c .before .before .before in
+    let a = m .args in
+    none-wanted (a .n) (now (a .t)) (a .x) (a .most) (now (a .out)) (m .pre .1 .1 .0) (c .if1 .taken)
 
 member-step-write-requires : (t : ℕ) → member-step-lts.Need-write-requires (member-calls t) (member-step-at t) member-step.Post
 member-step-write-requires t c κs =
-    let m = c .before .before .before in
+    let m = c .before .before .before .before in
     let a = m .args in
-    (omega (arith, m .pre .1 .0, m .pre .1 .1 .0), row-room (a .n) (now (a .t)) (a .x) (now (a .out)) (m .pre .1 .1 .0) (m .pre .1 .1 .1))
+    let h : 0 < a .most = omega (arith, c .before .if1 .left) in
+    (omega (arith, m .pre .1 .0, m .pre .1 .1 .0), row-room (a .n) (now (a .t)) (a .x) (a .most) (now (a .out)) (m .pre .1 .1 .0) h (m .pre .1 .1 .1))
 
-member-step-add-seek : (t : ℕ) → member-step-lts.Need-add-seek (member-calls t) (member-step-at t) member-step.Post
-member-step-add-seek t c =
+member-step-younger-requires : (t : ℕ) → member-step-lts.Need-younger-requires (member-calls t) (member-step-at t) member-step.Post
+member-step-younger-requires t c κs =
     let m = c .before .before .before .before .before .before .before in
-    omega (arith, m .pre .1, m .good .0)
+    (m .pre .1 .0, m .pre .1 .1 .0 .inside)
 
-member-step-add-seek-2 : (t : ℕ) → member-step-lts.Need-add-seek-2 (member-calls t) (member-step-at t) member-step.Post
-member-step-add-seek-2 t c =
-    let m = c .before .before .before .before .before .before .before in
-    omega (arith, m .pre .1, m .good .0)
-
-member-step-seek-requires : (t : ℕ) → member-step-lts.Need-seek-requires (member-calls t) (member-step-at t) member-step.Post
-member-step-seek-requires t c κs = omega (arith, c .before .before .before .before .before .before .before .pre .1)
-
-member-step-add-t14 : (t : ℕ) → member-step-lts.Need-add-t14 (member-calls t) (member-step-at t) member-step.Post
-member-step-add-t14 t c =
+member-step-add-t16 : (t : ℕ) → member-step-lts.Need-add-t16 (member-calls t) (member-step-at t) member-step.Post
+member-step-add-t16 t c =
     let m = c .before .before .before .before .before .before .before .before .before .before in
     omega (arith, m .pre .1, m .good .0)
 
 member-step-sub-member-step : (t : ℕ) → member-step-lts.Need-sub-member-step (member-calls t) (member-step-at t) member-step.Post
-member-step-sub-member-step t c =
+member-step-sub-member-step t c = omega (arith, c .before .before .before .before .before .before .before .if1 .left)
+
+member-step-sub-member-step-2 : (t : ℕ) → member-step-lts.Need-sub-member-step-2 (member-calls t) (member-step-at t) member-step.Post
+member-step-sub-member-step-2 t c =
     let m = c .before .before .before .before .before .before .before .before .before .before in
     let a = m .args in
-    row-inside (a .n) (now (a .t)) (a .x) (now (a .out)) (m .pre .1 .1 .0) (m .pre .1 .1 .1) (c .before .before .before .before .before .before .write .ensures)
+    let h : 0 < a .most = omega (arith, c .before .before .before .before .before .before .before .if1 .left) in
+    row-inside (a .n) (now (a .t)) (a .x) (a .most) (now (a .out)) (m .pre .1 .1 .0) h (m .pre .1 .1 .1) (c .before .before .before .before .before .write .ensures)
 
 member-step-part-member-step-start : (t : ℕ) → member-step-lts.Need-part-member-step-start (member-calls t) (member-step-at t) member-step.Post
 member-step-part-member-step-start t c =
     let m = c .before .before .before .before .before .before .before .before .before .before in
     let a = m .args in
-    row-inside (a .n) (now (a .t)) (a .x) (now (a .out)) (m .pre .1 .1 .0) (m .pre .1 .1 .1) (c .before .before .before .before .before .before .write .ensures)
+    let h : 0 < a .most = omega (arith, c .before .before .before .before .before .before .before .if1 .left) in
+    row-inside (a .n) (now (a .t)) (a .x) (a .most) (now (a .out)) (m .pre .1 .1 .0) h (m .pre .1 .1 .1) (c .before .before .before .before .before .write .ensures)
 
 member-step-part-member-step-end : (t : ℕ) → member-step-lts.Need-part-member-step-end (member-calls t) (member-step-at t) member-step.Post
 member-step-part-member-step-end t c = search needs
@@ -133,38 +144,40 @@ member-step-member-step-requires t c κs =
     let m = c .before .before .before .before .before .before .before .before .before .before .before in
     let a = m .args in
     let es = eldersIn (a .n) (now (a .t)) in
-    let w = c .before .before .before .before .before .before .before .write in
-    let y = c .before .before .before .seek in
-    let h = c .before .before .if1 .taken in
-    let rows = younger-members es (a .n) (length-elders-in (a .n) (now (a .t))) (a .x) (y .result) (y .ensures) h in
-    let text = younger-text (a .n) (now (a .t)) (a .x) (y .result) (y .ensures) h in
-    let stands = younger-stands (a .n) es (a .x) (y .result) (m .pre .1 .1 .0) (y .ensures) h in
-    let room = text-room (a .n) (now (a .t)) (a .x) (now (a .out)) (m .pre .1 .1 .0) (m .pre .1 .1 .1) (w .ensures)
-    (membersText (a .n) (now (a .t)) (turn (a .x .root) (y .result) (a .x .family) (a .x .rank + 1))) text in
+    let long = length-elders-in (a .n) (now (a .t)) in
+    let y = c .before .before .before .younger in
+    let h = c .before .before .if2 .taken in
+    let some : 0 < a .most = omega (arith, c .before .before .before .before .before .before .before .before .if1 .left) in
+    let rows = younger-members es (a .n) long (a .x) (y .result) (y .ensures) h in
+    let stands = younger-stands es (a .n) long (a .x) (y .result) (y .ensures) (m .pre .1 .1 .0) h in
+    let room = text-room (a .n) (now (a .t)) (a .x) (a .most) (now (a .out)) (m .pre .1 .1 .0) some (m .pre .1 .1 .1) (c .before .before .before .before .before .before .write .ensures)
+    (membersFrom es (turn (a .x .root) (y .result) (a .x .family) (a .x .rank + 1))) rows in
     (omega (arith, ap length rows, m .pre .0), (m .pre .1 .0, (stands, room)))
 
--- the row and the text behind it are all of the text
-younger-written : (t : ℕ) → member-step-lts.Need-returns (member-calls t) (member-step-at t) member-step.Post
+-- the row and the stretch behind it are the whole stretch
+younger-written : (t : ℕ) → member-step-lts.Need-returns-2 (member-calls t) (member-step-at t) member-step.Post
 younger-written t c =
-    let m = c .before .before .before .before .before .before .before .before .before .before .before .before .before .before in
+    let m = c .before .before .before .before .before .before .before .before .before .before .before .before .before .before .before .before in
     let a = m .args in
-    let w = c .before .before .before .before .before .before .before .before .before .before .write in
-    let y = c .before .before .before .before .before .before .seek in
-    let h = c .before .before .before .before .before .if1 .taken in
-    both-texts (a .n) (now (a .t)) (a .x) (now (a .out)) (m .pre .1 .1 .0) (m .pre .1 .1 .1) (w .ensures)
-    (membersText (a .n) (now (a .t)) (turn (a .x .root) (y .result) (a .x .family) (a .x .rank + 1))) (younger-text (a .n) (now (a .t)) (a .x) (y .result) (y .ensures) h)
-    (c .before .before .member-step .ensures)
+    let es = eldersIn (a .n) (now (a .t)) in
+    let long = length-elders-in (a .n) (now (a .t)) in
+    let y = c .before .before .before .before .before .before .before .before .younger in
+    let h = c .before .before .before .before .before .before .before .if2 .taken in
+    let some : 0 < a .most = omega (arith, c .before .before .before .before .before .before .before .before .before .before .before .before .before .if1 .left) in
+    let rows = younger-members es (a .n) long (a .x) (y .result) (y .ensures) h in
+    went-on (a .n) (now (a .t)) (a .x) (a .most) (now (a .out)) (m .pre .1 .1 .0) some (m .pre .1 .1 .1) (c .before .before .before .before .before .before .before .before .before .before .before .write .ensures)
+    (membersFrom es (turn (a .x .root) (y .result) (a .x .family) (a .x .rank + 1))) rows (c .before .before .before .before .member-step .ensures)
 
-member-step-add-result : (t : ℕ) → member-step-lts.Need-add-result (member-calls t) (member-step-at t) member-step.Post
-member-step-add-result t c =
-    let m = c .before .before .before .before .before .before .before .before .before .before .before .before .before .before in
-    omega (arith, younger-written t c .long, m .pre .1 .1 .1, m .good .1 .1 .1 .0 .0)
+member-step-add-t17 : (t : ℕ) → member-step-lts.Need-add-t17 (member-calls t) (member-step-at t) member-step.Post
+member-step-add-t17 t c =
+    let m = c .before .before .before .before .before .before .before .before .before .before .before .before .before .before .before .before in
+    omega (arith, younger-written t c .text .long, m .pre .1 .1 .1, m .good .1 .1 .1 .1 .0 .0)
 
 member-step-same-length : (t : ℕ) → member-step-lts.Need-same-length (member-calls t) (member-step-at t) member-step.Post
-member-step-same-length t c = keeps-length (younger-written t c)
+member-step-same-length t c = keeps-length (younger-written t c .text)
 
-member-step-returns : (t : ℕ) → member-step-lts.Need-returns (member-calls t) (member-step-at t) member-step.Post
-member-step-returns t c = younger-written t c
+member-step-returns-2 : (t : ℕ) → member-step-lts.Need-returns-2 (member-calls t) (member-step-at t) member-step.Post
+member-step-returns-2 t c = younger-written t c
 
 member-step-add-family-step : (t : ℕ) → member-step-lts.Need-add-family-step (member-calls t) (member-step-at t) member-step.Post
 member-step-add-family-step t c =
@@ -177,16 +190,21 @@ member-step-add-family-step-2 t c =
     omega (arith, m .pre .1, m .good .0)
 
 member-step-sub-family-step : (t : ℕ) → member-step-lts.Need-sub-family-step (member-calls t) (member-step-at t) member-step.Post
-member-step-sub-family-step t c =
+member-step-sub-family-step t c = omega (arith, c .before .before .before .before .before .before .before .before .if1 .left)
+
+member-step-sub-family-step-2 : (t : ℕ) → member-step-lts.Need-sub-family-step-2 (member-calls t) (member-step-at t) member-step.Post
+member-step-sub-family-step-2 t c =
     let m = c .before .before .before .before .before .before .before .before .before .before .before in
     let a = m .args in
-    row-inside (a .n) (now (a .t)) (a .x) (now (a .out)) (m .pre .1 .1 .0) (m .pre .1 .1 .1) (c .before .before .before .before .before .before .before .write .ensures)
+    let h : 0 < a .most = omega (arith, c .before .before .before .before .before .before .before .before .if1 .left) in
+    row-inside (a .n) (now (a .t)) (a .x) (a .most) (now (a .out)) (m .pre .1 .1 .0) h (m .pre .1 .1 .1) (c .before .before .before .before .before .before .write .ensures)
 
 member-step-part-family-step-start : (t : ℕ) → member-step-lts.Need-part-family-step-start (member-calls t) (member-step-at t) member-step.Post
 member-step-part-family-step-start t c =
     let m = c .before .before .before .before .before .before .before .before .before .before .before in
     let a = m .args in
-    row-inside (a .n) (now (a .t)) (a .x) (now (a .out)) (m .pre .1 .1 .0) (m .pre .1 .1 .1) (c .before .before .before .before .before .before .before .write .ensures)
+    let h : 0 < a .most = omega (arith, c .before .before .before .before .before .before .before .before .if1 .left) in
+    row-inside (a .n) (now (a .t)) (a .x) (a .most) (now (a .out)) (m .pre .1 .1 .0) h (m .pre .1 .1 .1) (c .before .before .before .before .before .before .write .ensures)
 
 member-step-part-family-step-end : (t : ℕ) → member-step-lts.Need-part-family-step-end (member-calls t) (member-step-at t) member-step.Post
 member-step-part-family-step-end t c = search needs
@@ -195,37 +213,40 @@ member-step-family-step-requires : (t : ℕ) → member-step-lts.Need-family-ste
 member-step-family-step-requires t c κs =
     let m = c .before .before .before .before .before .before .before .before .before .before .before .before in
     let a = m .args in
-    let w = c .before .before .before .before .before .before .before .before .write in
-    let y = c .before .before .before .before .seek in
-    let h = c .before .before .before .if1 .left in
-    let rows = last-members (eldersIn (a .n) (now (a .t))) (a .n) (length-elders-in (a .n) (now (a .t))) (a .x) (y .result) (y .ensures) h in
-    let text = last-text (a .n) (now (a .t)) (a .x) (y .result) (y .ensures) h in
-    let room = text-room (a .n) (now (a .t)) (a .x) (now (a .out)) (m .pre .1 .1 .0) (m .pre .1 .1 .1) (w .ensures)
-    (familiesText (a .n) (now (a .t)) (a .x .root + 1) (a .x .family + 1)) text in
+    let es = eldersIn (a .n) (now (a .t)) in
+    let long = length-elders-in (a .n) (now (a .t)) in
+    let y = c .before .before .before .before .younger in
+    let h = c .before .before .before .if2 .left in
+    let some : 0 < a .most = omega (arith, c .before .before .before .before .before .before .before .before .before .if1 .left) in
+    let rows = last-members es (a .n) long (a .x) (y .result) (y .ensures) h in
+    let room = text-room (a .n) (now (a .t)) (a .x) (a .most) (now (a .out)) (m .pre .1 .1 .0) some (m .pre .1 .1 .1) (c .before .before .before .before .before .before .before .write .ensures)
+    (familiesFrom es (a .x .root + 1) (a .x .family + 1)) rows in
     (omega (arith, ap length rows, m .pre .0), (m .pre .1 .0, (omega (arith, m .pre .1 .1 .0), (omega (arith, m .pre .1 .1 .0), room))))
 
--- the row and the text behind it are all of the text
-last-written : (t : ℕ) → member-step-lts.Need-returns-2 (member-calls t) (member-step-at t) member-step.Post
+-- the row and the stretch behind it are the whole stretch
+last-written : (t : ℕ) → member-step-lts.Need-returns-3 (member-calls t) (member-step-at t) member-step.Post
 last-written t c =
-    let m = c .before .before .before .before .before .before .before .before .before .before .before .before .before .before .before in
+    let m = c .before .before .before .before .before .before .before .before .before .before .before .before .before .before .before .before .before in
     let a = m .args in
-    let w = c .before .before .before .before .before .before .before .before .before .before .before .write in
-    let y = c .before .before .before .before .before .before .before .seek in
-    let h = c .before .before .before .before .before .before .if1 .left in
-    both-texts (a .n) (now (a .t)) (a .x) (now (a .out)) (m .pre .1 .1 .0) (m .pre .1 .1 .1) (w .ensures)
-    (familiesText (a .n) (now (a .t)) (a .x .root + 1) (a .x .family + 1)) (last-text (a .n) (now (a .t)) (a .x) (y .result) (y .ensures) h)
-    (c .before .before .family-step .ensures)
+    let es = eldersIn (a .n) (now (a .t)) in
+    let long = length-elders-in (a .n) (now (a .t)) in
+    let y = c .before .before .before .before .before .before .before .before .before .younger in
+    let h = c .before .before .before .before .before .before .before .before .if2 .left in
+    let some : 0 < a .most = omega (arith, c .before .before .before .before .before .before .before .before .before .before .before .before .before .before .if1 .left) in
+    let rows = last-members es (a .n) long (a .x) (y .result) (y .ensures) h in
+    went-on (a .n) (now (a .t)) (a .x) (a .most) (now (a .out)) (m .pre .1 .1 .0) some (m .pre .1 .1 .1) (c .before .before .before .before .before .before .before .before .before .before .before .before .write .ensures)
+    (familiesFrom es (a .x .root + 1) (a .x .family + 1)) rows (c .before .before .before .before .family-step .ensures)
 
-member-step-add-result-2 : (t : ℕ) → member-step-lts.Need-add-result-2 (member-calls t) (member-step-at t) member-step.Post
-member-step-add-result-2 t c =
-    let m = c .before .before .before .before .before .before .before .before .before .before .before .before .before .before .before in
-    omega (arith, last-written t c .long, m .pre .1 .1 .1, m .good .1 .1 .1 .0 .0)
+member-step-add-t22 : (t : ℕ) → member-step-lts.Need-add-t22 (member-calls t) (member-step-at t) member-step.Post
+member-step-add-t22 t c =
+    let m = c .before .before .before .before .before .before .before .before .before .before .before .before .before .before .before .before .before in
+    omega (arith, last-written t c .text .long, m .pre .1 .1 .1, m .good .1 .1 .1 .1 .0 .0)
 
 member-step-same-length-2 : (t : ℕ) → member-step-lts.Need-same-length-2 (member-calls t) (member-step-at t) member-step.Post
-member-step-same-length-2 t c = keeps-length (last-written t c)
+member-step-same-length-2 t c = keeps-length (last-written t c .text)
 
-member-step-returns-2 : (t : ℕ) → member-step-lts.Need-returns-2 (member-calls t) (member-step-at t) member-step.Post
-member-step-returns-2 t c = last-written t c
+member-step-returns-3 : (t : ℕ) → member-step-lts.Need-returns-3 (member-calls t) (member-step-at t) member-step.Post
+member-step-returns-3 t c = last-written t c
 
 pub +family-step+member-step-spec : {M : Type 1} → statement M
 +family-step+member-step-spec =
@@ -239,24 +260,25 @@ pub +family-step+member-step-spec : {M : Type 1} → statement M
     (family-step-returns-2 t))
     (λ t.
     member-step-lts.spec (member-calls t) (member-step-at t) member-step.Post
+    (member-step-returns t)
     (member-step-write-requires t)
-    (member-step-add-seek t)
-    (member-step-add-seek-2 t)
-    (member-step-seek-requires t)
-    (member-step-add-t14 t)
+    (member-step-younger-requires t)
+    (member-step-add-t16 t)
     (member-step-sub-member-step t)
+    (member-step-sub-member-step-2 t)
     (member-step-part-member-step-start t)
     (member-step-part-member-step-end t)
     (member-step-member-step-requires t)
-    (member-step-add-result t)
+    (member-step-add-t17 t)
     (member-step-same-length t)
-    (member-step-returns t)
+    (member-step-returns-2 t)
     (member-step-add-family-step t)
     (member-step-add-family-step-2 t)
     (member-step-sub-family-step t)
+    (member-step-sub-family-step-2 t)
     (member-step-part-family-step-start t)
     (member-step-part-family-step-end t)
     (member-step-family-step-requires t)
-    (member-step-add-result-2 t)
+    (member-step-add-t22 t)
     (member-step-same-length-2 t)
-    (member-step-returns-2 t))
+    (member-step-returns-3 t))

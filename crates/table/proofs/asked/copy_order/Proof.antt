@@ -1,11 +1,9 @@
 -- `table::asked::copy_order` meets its contract.
-use Prim.Native.Nat.{_+_, _≤_}
 use mathlib.Core.Path.{sym, _∙_}
 use native.Mathlib.Omega.{arith}
 use borrow.Author.Tests.{not-true, not-false}
 use borrow.Author.Needs.{needs}
 use denote.Ref.{now}
-use lib.ListN.{length}
 use Rattle.slot.specs.Places.{SlotInside}
 use Rattle.table.proofs.Asking.{uncopied, no-room, no-order, copied, slot-of}
 use Rattle.table.proofs.Whole.{whole}
