@@ -4,6 +4,8 @@ pub mod Joining
 pub mod Seeking
 -- From one order of the listing to the next
 pub mod Turning
+-- One order more is noted, for its elder alone
+pub mod Noting
 -- The row of one order, then a stretch of those behind it
 pub mod Stepping
 -- Stretch after stretch is the whole text

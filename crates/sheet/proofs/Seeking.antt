@@ -4,7 +4,7 @@ use native.Mathlib.Numerals.{add-one}
 use native.Mathlib.Omega.{arith}
 use mathlib.Core.Path.{_≡_, refl, sym, _∙_}
 use mathlib.Core.List.{List, [], _∷_}
-use borrow.Author.Tests.{eq-eqb, le-ltb, lt-ltb, ne-eqb}
+use borrow.Author.Tests.{eq-eqb, ne-eqb}
 use lib.ListN.{length, drop, drop-of-length-le}
 use Rattle.day.specs.Damage.{eldersOf}
 use Rattle.day.specs.Walk.{rootCount}
@@ -12,7 +12,7 @@ use Rattle.day.proofs.Orders.{length-elders}
 use Rattle.slot.specs.Slots.{orderIn}
 use Rattle.slot.specs.Places.{slot, ordersIn}
 use Rattle.slot.proofs.Laws.{length-orders}
-use Rattle.sheet.specs.Walk.{eldersIn, seek, youngerOf}
+use Rattle.sheet.specs.Walk.{eldersIn, seek}
 
 pub length-elders-in : (n : ℕ) (s : List ℕ) → length (eldersIn n s) ≡ n
 length-elders-in n s = length-elders (ordersIn 0 n s) ∙ length-orders 0 n s
@@ -24,7 +24,7 @@ elders-from k zero i p s h e = absurd (omega arith)
 elders-from k (suc n) zero p s h e = let q : p ≡ k = omega arith in rw q
 elders-from k (suc n) (suc i) p s h e = elders-from (k + 1) n i p s (omega arith) (omega arith)
 
-abbrev elderIn : List ℕ → ℕ → ℕ
+abbrev pub elderIn : List ℕ → ℕ → ℕ
 elderIn s i = orderIn (slot s i) .elder
 
 elders-at : (n i : ℕ) (s : List ℕ) → i < n → drop i (eldersIn n s) ≡ elderIn s i ∷ drop (i + 1) (eldersIn n s)
@@ -53,13 +53,6 @@ module _ {s : List ℕ} {n from e i : ℕ} (x : Sought s n from e i) where
 
   pub sought-all : n ≤ i → n ≡ seek e from (drop from (eldersIn n s))
   sought-all h = let k : i ≡ n = omega (arith, x .inside) in sym (x .same ∙ rw (elders-end n i s h) k)
-
-module _ (n : ℕ) (s : List ℕ) (i y : ℕ) (q : y ≡ seek (i + 1) (i + 1) (drop (i + 1) (eldersIn n s))) where
-  pub younger-found : y < n → y ≡ youngerOf (eldersIn n s) i
-  younger-found h = rw (length-elders-in n s, ← q, lt-ltb y n h)
-
-  pub younger-none : n ≤ y → 0 ≡ youngerOf (eldersIn n s) i
-  younger-none h = rw (length-elders-in n s, ← q, le-ltb y n h)
 
 -- ---- the count of the orders that have none
 

@@ -12,11 +12,12 @@ use lib.Seq.{drop-cons}
 use Rattle.day.specs.Listing.{Member}
 use Rattle.day.specs.Walk.{member, below, families}
 use Rattle.day.proofs.Listings.{by-test}
-use Rattle.sheet.specs.Walk.{Stands, StandsOrEnds, familiesFrom, membersBehind, membersFrom, membersLeft, seek, youngerOf}
+use Rattle.sheet.specs.Kin.{youngerOf}
+use Rattle.sheet.specs.Walk.{Stands, StandsOrEnds, familiesFrom, membersBehind, membersFrom, membersLeft, seek}
 use Rattle.sheet.specs.declared.Turn.{Turn}
 
 -- what is found lies behind the place where the search began, or there
-seek-from : (e j : ℕ) (s : List ℕ) → j ≤ seek e j s
+pub seek-from : (e j : ℕ) (s : List ℕ) → j ≤ seek e j s
 seek-from e j [] = omega arith
 seek-from e j (x ∷ s) = by-test (λ (r : ℕ). j ≤ r) (eqb x e) (λ t. omega arith) (λ t. omega (arith, seek-from e (j + 1) s))
 

@@ -4,7 +4,7 @@ use mathlib.Core.Path.{_≡_}
 use mathlib.Core.Bool.{cond}
 use mathlib.Core.List.{List, [], _∷_, _++_}
 use lib.Dec.{ltb, eqb}
-use lib.ListN.{drop, length, take}
+use lib.ListN.{drop, take}
 use Rattle.order.specs.declared.Order.{Order}
 use Rattle.day.specs.Damage.{eldersOf}
 use Rattle.day.specs.Listing.{Member}
@@ -34,10 +34,6 @@ eldersIn n s = eldersOf (ordersIn 0 n s)
 abbrev pub seek : ℕ → ℕ → List ℕ → ℕ
 seek e j [] = j
 seek e j (x ∷ es) = cond (eqb x e) j (seek e (j + 1) es)
-
--- the younger order of the one at place i, or 0: the first order is nobody's younger one
-abbrev pub youngerOf : List ℕ → ℕ → ℕ
-youngerOf es i = let y = seek (i + 1) (i + 1) (drop (i + 1) es) in cond (ltb y (length es)) y 0
 
 -- families from place i on, the first of them numbered f
 abbrev pub familiesFrom : List ℕ → ℕ → ℕ → List Member

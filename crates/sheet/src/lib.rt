@@ -5,13 +5,18 @@ ghost use Rattle.table.specs.Tables.{sound};
 ghost use Rattle.sheet.specs.Promises.{Sheets};
 
 mod family;
+mod kin;
 mod room;
 mod walk;
 
 use refusal::Refusal;
 use row::heading;
+use table::LIMIT;
 use table::damage;
 use table::header;
+
+// The most orders that the walk has room for.
+const ORDERS: usize = LIMIT as usize;
 
 // The answer: how many bytes were written.
 pub enum Writing {
@@ -54,11 +59,13 @@ pub fn write_sound(t: &[u8], out: &mut [u8]) -> Writing
     if out.len() < head {
         return Writing::Refused(Refusal::NoRoom);
     }
+    let mut kin = [0u16; ORDERS];
+    kin::note_all(t, n, &mut kin);
     let first = walk::start(t, n);
-    if !room::rows_fit(t, n, first, n, out.len() - head) {
+    if !room::rows_fit(t, &kin, n, first, n, out.len() - head) {
         return Writing::Refused(Refusal::NoRoom);
     }
     let wrote = heading::write(n as u64, families, out);
-    let rows = family::rows(t, n, first, n, &mut out[wrote..]);
+    let rows = family::rows(t, &kin, n, first, n, &mut out[wrote..]);
     Writing::Done(wrote + rows)
 }

@@ -1,11 +1,13 @@
 // The walk over the orders of a table: down a family to its youngest order, then over to the next family.
-ghost use Prim.Native.Nat.{_≤_, _<_};
+ghost use Prim.Native.Nat.{_≤_};
 ghost use mathlib.Core.Path.{_≡_};
 ghost use lib.ListN.{length, drop};
 ghost use Rattle.day.specs.Walk.{families, rootCount};
 ghost use Rattle.slot.specs.Places.{slotAt};
-ghost use Rattle.sheet.specs.Walk.{Stands, StandsOrEnds, eldersIn, membersBehind, membersLeft, seek as Walk·seek, youngerOf};
+ghost use Rattle.sheet.specs.Walk.{Stands, StandsOrEnds, eldersIn, membersBehind, membersLeft, seek as Walk·seek};
+ghost use Rattle.sheet.specs.Kin.{Kin};
 use crate::Turn;
+use crate::kin;
 
 // The first of n orders, from a place on, that has the elder e (1 is the first order, 0 is none), or n. A younger order is always later.
 pub fn seek(t: &[u8], n: usize, from: usize, e: u64) -> usize
@@ -39,19 +41,6 @@ pub fn count_roots(t: &[u8], n: usize) -> u64
     roots
 }
 
-// The younger order of the one at a place, or 0: the first order is nobody's younger one.
-pub fn younger(t: &[u8], n: usize, i: usize) -> usize
-    requires { ⌜ slotAt n ≤ length (now t) ⌝ }
-    requires { ⌜ i < n ⌝ }
-    ensures { λ r. ⌜ r ≡ youngerOf (eldersIn n (now (t .entry))) i ⌝ }
-{
-    let found = seek(t, n, i + 1, i as u64 + 1);
-    if found < n {
-        return found;
-    }
-    0
-}
-
 // Where the walk starts: at the first order that has no elder.
 pub fn start(t: &[u8], n: usize) -> Turn
     requires { ⌜ slotAt n ≤ length (now t) ⌝ }
@@ -68,13 +57,13 @@ pub fn start(t: &[u8], n: usize) -> Turn
 }
 
 // The turn behind a row.
-pub fn next(t: &[u8], n: usize, x: Turn) -> Turn
-    requires { ⌜ slotAt n ≤ length (now t) ⌝ }
+pub fn next(t: &[u8], kin: &[u16], n: usize, x: Turn) -> Turn
+    requires { ⌜ Kin n (now t) (now kin) ⌝ }
     requires { ⌜ Stands n x ⌝ }
     ensures { λ y. ⌜ membersLeft n (eldersIn n (now (t .entry))) y ≡ membersBehind (eldersIn n (now (t .entry))) x ⌝ }
     ensures { λ y. ⌜ StandsOrEnds n y ⌝ }
 {
-    let younger = younger(t, n, x.place);
+    let younger = kin::younger(kin, x.place);
     if 0 < younger {
         return Turn {
             root: x.root,

@@ -3,6 +3,8 @@ use native.Mathlib.Omega.{arith}
 use borrow.Author.Needs.{needs}
 use borrow.Author.Tests.{not-true, not-false}
 use denote.Ref.{now}
+use lib.ListN.{length, length-replicate}
+use Rattle.table.proofs.Limits.{limit-most}
 use Rattle.table.proofs.Whole.{whole}
 use Rattle.sheet.proofs.Answering.{Measured, no-heading, no-rows, rows-room, sheet-written, slots-inside, written-inside, written-kept}
 use Rattle.sheet.proofs.write_sound.Statement.{statement}
@@ -30,28 +32,43 @@ measured c =
 returns : tie.Need-returns
 returns c = no-heading (measured (c .before)) (now (c .before .before .before .before .before .before .args .out)) (c .if1 .taken)
 
+slice-aggregate-note-all : tie.Need-slice-aggregate-note-all
+slice-aggregate-note-all c = search needs
+
+note-all-requires : tie.Need-note-all-requires
+note-all-requires c κs =
+    let m = measured (c .before .before) in
+    let s = now (c .before .before .before .before .before .before .before .args .t) in
+    let n = c .before .before .before .before .count .result in
+    let few = whole s (m .good) .fits in
+    let most = limit-most (length s) in
+    let slots = slots-inside s n (m .good) (m .count) in
+    (slots, (rw length-replicate (omega (arith, m .count, few, most)), omega (arith, m .count, few, most)))
+
 start-requires : tie.Need-start-requires
-start-requires c κs =
-    let m = measured (c .before) in
-    slots-inside (now (c .before .before .before .before .before .before .args .t)) (c .before .before .before .count .result) (m .good) (m .count)
+start-requires c κs = c .before .note-all .ensures .slots
+
+slice-aggregate-rows-fit : tie.Need-slice-aggregate-rows-fit
+slice-aggregate-rows-fit c = search needs
 
 sub-rows-fit : tie.Need-sub-rows-fit
 sub-rows-fit c = search needs
 
 rows-fit-requires : tie.Need-rows-fit-requires
-rows-fit-requires c κs =
-    let m = measured (c .before .before) in
-    (slots-inside (now (c .before .before .before .before .before .before .before .args .t)) (c .before .before .before .before .count .result) (m .good) (m .count), c .start .ensures .1)
+rows-fit-requires c κs = (c .before .before .before .note-all .ensures, c .before .start .ensures .1)
 
 returns-2 : tie.Need-returns-2
 returns-2 c =
-    let x = c .before .before .start in
+    let x = c .before .before .before .start in
     let r = c .before .rows-fit in
-    no-rows (measured (c .before .before .before .before)) (now (c .before .before .before .before .before .before .before .before .before .args .out)) (x .result) (x .ensures .0) (c .before .before .before .if1 .left) (r .result) (r .ensures)
+    no-rows (measured (c .before .before .before .before .before .before .before .before)) (now (c .before .before .before .before .before .before .before .before .before .before .before .before .before .args .out)) (x .result) (x .ensures .0) (c .before .before .before .before .before .before .before .if1 .left) (r .result) (r .ensures)
     (not-true (r .result) (c .if2 .taken))
 
 write-requires : tie.Need-write-requires
 write-requires c κs = search needs
+
+slice-aggregate-rows : tie.Need-slice-aggregate-rows
+slice-aggregate-rows c = search needs
 
 sub-rows : tie.Need-sub-rows
 sub-rows c = search needs
@@ -64,24 +81,22 @@ part-rows-end c = search needs
 
 rows-requires : tie.Need-rows-requires
 rows-requires c κs =
-    let m = measured (c .before .before .before .before .before .before .before .before .before) in
-    let a = c .before .before .before .before .before .before .before .before .before .before .before .before .before .before .args in
-    let x = c .before .before .before .before .before .before .before .start in
-    let r = c .before .before .before .before .before .before .rows-fit in
-    let room = rows-room m (now (a .out)) (x .result) (x .ensures .0) (c .before .before .before .before .before .before .before .before .if1 .left) (r .result) (r .ensures)
-    (not-false (r .result) (c .before .before .before .before .before .if2 .left)) (c .before .before .before .write .ensures) in
-    (slots-inside (now (a .t)) (c .before .before .before .before .before .before .before .before .before .before .before .count .result) (m .good) (m .count), (x .ensures .1, room))
+    let x = c .before .before .before .before .before .before .before .before .before .start in
+    let r = c .before .before .before .before .before .before .before .rows-fit in
+    let room = rows-room (measured (c .before .before .before .before .before .before .before .before .before .before .before .before .before .before)) (now (c .before .before .before .before .before .before .before .before .before .before .before .before .before .before .before .before .before .before .before .args .out)) (x .result) (x .ensures .0) (c .before .before .before .before .before .before .before .before .before .before .before .before .before .if1 .left) (r .result) (r .ensures)
+    (not-false (r .result) (c .before .before .before .before .before .before .if2 .left)) (c .before .before .before .before .write .ensures) in
+    (c .before .before .before .before .before .before .before .before .before .before .before .note-all .ensures, (x .ensures .1, room))
 
 -- the heading and the rows behind it are the sheet
 sheet : tie.Need-returns-3
 sheet c =
-    let x = c .before .before .before .before .before .before .before .before .before .before .start in
-    let r = c .before .before .before .before .before .before .before .before .before .rows-fit in
-    sheet-written (measured (c .before .before .before .before .before .before .before .before .before .before .before .before)) (now (c .before .before .before .before .before .before .before .before .before .before .before .before .before .before .before .before .before .args .out)) (x .result) (x .ensures .0) (c .before .before .before .before .before .before .before .before .before .before .before .if1 .left) (r .result) (r .ensures)
-    (not-false (r .result) (c .before .before .before .before .before .before .before .before .if2 .left)) (c .before .before .before .before .before .before .write .ensures) (c .before .before .rows .ensures)
+    let x = c .before .before .before .before .before .before .before .before .before .before .before .before .start in
+    let r = c .before .before .before .before .before .before .before .before .before .before .rows-fit in
+    sheet-written (measured (c .before .before .before .before .before .before .before .before .before .before .before .before .before .before .before .before .before)) (now (c .before .before .before .before .before .before .before .before .before .before .before .before .before .before .before .before .before .before .before .before .before .before .args .out)) (x .result) (x .ensures .0) (c .before .before .before .before .before .before .before .before .before .before .before .before .before .before .before .before .if1 .left) (r .result) (r .ensures)
+    (not-false (r .result) (c .before .before .before .before .before .before .before .before .before .if2 .left)) (c .before .before .before .before .before .before .before .write .ensures) (c .before .before .rows .ensures)
 
-add-t13 : tie.Need-add-t13
-add-t13 c = omega (arith, written-inside (sheet c), c .before .before .before .before .before .before .before .before .before .before .before .before .before .before .before .before .before .good .1 .0 .0)
+add-t19 : tie.Need-add-t19
+add-t19 c = omega (arith, written-inside (sheet c), c .before .before .before .before .before .before .before .before .before .before .before .before .before .before .before .before .before .before .before .before .before .before .good .1 .0 .0)
 
 same-length : tie.Need-same-length
 same-length c = written-kept (sheet c)
@@ -97,15 +112,19 @@ write-sound-spec =
     count-roots-requires
     length-requires
     returns
+    slice-aggregate-note-all
+    note-all-requires
     start-requires
+    slice-aggregate-rows-fit
     sub-rows-fit
     rows-fit-requires
     returns-2
     write-requires
+    slice-aggregate-rows
     sub-rows
     part-rows-start
     part-rows-end
     rows-requires
-    add-t13
+    add-t19
     same-length
     returns-3)

@@ -10,6 +10,7 @@ use lib.ListN.{length}
 use Rattle.row.proofs.write.Reads as write-reads
 use Rattle.sheet.specs.Walk.{eldersIn, familiesFrom, membersFrom}
 use Rattle.sheet.proofs.Joining.{keeps-length}
+use Rattle.sheet.proofs.Noting.{is-younger}
 use Rattle.sheet.proofs.Seeking.{length-elders-in}
 use Rattle.sheet.proofs.Stepping.{none-left, none-wanted, row-inside, row-room, text-room, went-on}
 use Rattle.sheet.proofs.Turning.{turn, family-none, family-members, first-stands, last-members, younger-members, younger-stands}
@@ -22,26 +23,26 @@ use Rattle.sheet.proofs.family.+family_step+member_step.Lts-member_step
 use Rattle.sheet.proofs.family.+family_step+member_step.{statement}
 use Rattle.sheet.proofs.family.+family_step+member_step.Tie.{close}
 use Rattle.sheet.proofs.walk.seek.Reads as seek-reads
-use Rattle.sheet.proofs.walk.younger.Reads as younger-reads
+use Rattle.sheet.proofs.kin.younger.Reads as younger-reads
 
-abbrev μ-family-step : Measures 2 family-step-kinds.ps ℕ
-μ-family-step κs a = length (familiesFrom (eldersIn (a .1 .0) (a .0 .now)) (a .1 .1 .0) (a .1 .1 .1 .0)) * 2 + 1
+abbrev μ-family-step : Measures 3 family-step-kinds.ps ℕ
+μ-family-step κs a = length (familiesFrom (eldersIn (a .1 .1 .0) (a .0 .now)) (a .1 .1 .1 .0) (a .1 .1 .1 .1 .0)) * 2 + 1
 
-abbrev μ-member-step : Measures 2 member-step-kinds.ps ℕ
-μ-member-step κs a = length (membersFrom (eldersIn (a .1 .0) (a .0 .now)) (a .1 .1 .0)) * 2
+abbrev μ-member-step : Measures 3 member-step-kinds.ps ℕ
+μ-member-step κs a = length (membersFrom (eldersIn (a .1 .1 .0) (a .0 .now)) (a .1 .1 .1 .0)) * 2
 
 -- what each is given at the measure t, and what a call of it asks below t
-abbrev family-step-at : ℕ → In 2 family-step-kinds.ps
-family-step-at t = and 2 family-step-kinds.ps (is 2 family-step-kinds.ps μ-family-step t) family-step.Pre
+abbrev family-step-at : ℕ → In 3 family-step-kinds.ps
+family-step-at t = and 3 family-step-kinds.ps (is 3 family-step-kinds.ps μ-family-step t) family-step.Pre
 
-abbrev family-step-below : ℕ → In 2 family-step-kinds.ps
-family-step-below t = and 2 family-step-kinds.ps (falls 2 family-step-kinds.ps _<_ μ-family-step t) family-step.Pre
+abbrev family-step-below : ℕ → In 3 family-step-kinds.ps
+family-step-below t = and 3 family-step-kinds.ps (falls 3 family-step-kinds.ps _<_ μ-family-step t) family-step.Pre
 
-abbrev member-step-at : ℕ → In 2 member-step-kinds.ps
-member-step-at t = and 2 member-step-kinds.ps (is 2 member-step-kinds.ps μ-member-step t) member-step.Pre
+abbrev member-step-at : ℕ → In 3 member-step-kinds.ps
+member-step-at t = and 3 member-step-kinds.ps (is 3 member-step-kinds.ps μ-member-step t) member-step.Pre
 
-abbrev member-step-below : ℕ → In 2 member-step-kinds.ps
-member-step-below t = and 2 member-step-kinds.ps (falls 2 member-step-kinds.ps _<_ μ-member-step t) member-step.Pre
+abbrev member-step-below : ℕ → In 3 member-step-kinds.ps
+member-step-below t = and 3 member-step-kinds.ps (falls 3 member-step-kinds.ps _<_ μ-member-step t) member-step.Pre
 
 -- what the calls of each ask and give
 abbrev family-calls : ℕ → family-step-lts.Claims
@@ -64,7 +65,7 @@ family-step-seek-requires t c κs = search needs
 
 family-step-returns : (t : ℕ) → family-step-lts.Need-returns (family-calls t) (family-step-at t) family-step.Post
 family-step-returns t c =
-    let a = c .before .before .before .before .args in
+    let a = c .before .before .before .before .before .args in
     let es = eldersIn (a .n) (now (a .t)) in
     let long = length-elders-in (a .n) (now (a .t)) in
     let q = c .before .seek in
@@ -74,7 +75,7 @@ family-step-returns t c =
 
 family-step-member-step-requires : (t : ℕ) → family-step-lts.Need-member-step-requires (family-calls t) (family-step-at t) family-step.Post
 family-step-member-step-requires t c κs =
-    let m = c .before .before .before .before .before in
+    let m = c .before .before .before .before .before .before in
     let a = m .args in
     let es = eldersIn (a .n) (now (a .t)) in
     let long = length-elders-in (a .n) (now (a .t)) in
@@ -85,11 +86,11 @@ family-step-member-step-requires t c κs =
     (omega (arith, ap length rows, m .pre .0), (m .pre .1 .0, (stands, rw rows (m .pre .1 .1 .1 .1))))
 
 family-step-same-length : (t : ℕ) → family-step-lts.Need-same-length (family-calls t) (family-step-at t) family-step.Post
-family-step-same-length t c = c .before .before .member-step .kept .1 .1 .1 .1 .0
+family-step-same-length t c = c .before .before .member-step .kept .1 .1 .1 .1 .1 .0
 
 family-step-returns-2 : (t : ℕ) → family-step-lts.Need-returns-2 (family-calls t) (family-step-at t) family-step.Post
 family-step-returns-2 t c =
-    let a = c .before .before .before .before .before .before .before .before .args in
+    let a = c .before .before .before .before .before .before .before .before .before .args in
     let es = eldersIn (a .n) (now (a .t)) in
     let long = length-elders-in (a .n) (now (a .t)) in
     let q = c .before .before .before .before .before .seek in
@@ -98,25 +99,25 @@ family-step-returns-2 t c =
 
 member-step-returns : (t : ℕ) → member-step-lts.Need-returns (member-calls t) (member-step-at t) member-step.Post
 member-step-returns t c =
-    let m = c .before .before .before in
+    let m = c .before .before .before .before in
     let a = m .args in
     none-wanted (a .n) (now (a .t)) (a .x) (a .most) (now (a .out)) (m .pre .1 .1 .0) (c .if1 .taken)
 
 member-step-write-requires : (t : ℕ) → member-step-lts.Need-write-requires (member-calls t) (member-step-at t) member-step.Post
 member-step-write-requires t c κs =
-    let m = c .before .before .before .before in
+    let m = c .before .before .before .before .before in
     let a = m .args in
     let h : 0 < a .most = omega (arith, c .before .if1 .left) in
-    (omega (arith, m .pre .1 .0, m .pre .1 .1 .0), row-room (a .n) (now (a .t)) (a .x) (a .most) (now (a .out)) (m .pre .1 .1 .0) h (m .pre .1 .1 .1))
+    (omega (arith, m .pre .1 .0 .slots, m .pre .1 .1 .0), row-room (a .n) (now (a .t)) (a .x) (a .most) (now (a .out)) (m .pre .1 .1 .0) h (m .pre .1 .1 .1))
 
 member-step-younger-requires : (t : ℕ) → member-step-lts.Need-younger-requires (member-calls t) (member-step-at t) member-step.Post
 member-step-younger-requires t c κs =
-    let m = c .before .before .before .before .before .before .before in
-    (m .pre .1 .0, m .pre .1 .1 .0 .inside)
+    let m = c .before .before .before .before .before .before .before .before in
+    omega (arith, m .pre .1 .0 .long, m .pre .1 .1 .0)
 
-member-step-add-t16 : (t : ℕ) → member-step-lts.Need-add-t16 (member-calls t) (member-step-at t) member-step.Post
-member-step-add-t16 t c =
-    let m = c .before .before .before .before .before .before .before .before .before .before in
+member-step-add-t17 : (t : ℕ) → member-step-lts.Need-add-t17 (member-calls t) (member-step-at t) member-step.Post
+member-step-add-t17 t c =
+    let m = c .before .before .before .before .before .before .before .before .before .before .before in
     omega (arith, m .pre .1, m .good .0)
 
 member-step-sub-member-step : (t : ℕ) → member-step-lts.Need-sub-member-step (member-calls t) (member-step-at t) member-step.Post
@@ -124,14 +125,14 @@ member-step-sub-member-step t c = omega (arith, c .before .before .before .befor
 
 member-step-sub-member-step-2 : (t : ℕ) → member-step-lts.Need-sub-member-step-2 (member-calls t) (member-step-at t) member-step.Post
 member-step-sub-member-step-2 t c =
-    let m = c .before .before .before .before .before .before .before .before .before .before in
+    let m = c .before .before .before .before .before .before .before .before .before .before .before in
     let a = m .args in
     let h : 0 < a .most = omega (arith, c .before .before .before .before .before .before .before .if1 .left) in
     row-inside (a .n) (now (a .t)) (a .x) (a .most) (now (a .out)) (m .pre .1 .1 .0) h (m .pre .1 .1 .1) (c .before .before .before .before .before .write .ensures)
 
 member-step-part-member-step-start : (t : ℕ) → member-step-lts.Need-part-member-step-start (member-calls t) (member-step-at t) member-step.Post
 member-step-part-member-step-start t c =
-    let m = c .before .before .before .before .before .before .before .before .before .before in
+    let m = c .before .before .before .before .before .before .before .before .before .before .before in
     let a = m .args in
     let h : 0 < a .most = omega (arith, c .before .before .before .before .before .before .before .if1 .left) in
     row-inside (a .n) (now (a .t)) (a .x) (a .most) (now (a .out)) (m .pre .1 .1 .0) h (m .pre .1 .1 .1) (c .before .before .before .before .before .write .ensures)
@@ -141,15 +142,16 @@ member-step-part-member-step-end t c = search needs
 
 member-step-member-step-requires : (t : ℕ) → member-step-lts.Need-member-step-requires (member-calls t) (member-step-at t) member-step.Post
 member-step-member-step-requires t c κs =
-    let m = c .before .before .before .before .before .before .before .before .before .before .before in
+    let m = c .before .before .before .before .before .before .before .before .before .before .before .before in
     let a = m .args in
     let es = eldersIn (a .n) (now (a .t)) in
     let long = length-elders-in (a .n) (now (a .t)) in
     let y = c .before .before .before .younger in
+    let q = is-younger (m .pre .1 .0) (m .pre .1 .1 .0 .inside) (y .ensures) in
     let h = c .before .before .if2 .taken in
     let some : 0 < a .most = omega (arith, c .before .before .before .before .before .before .before .before .if1 .left) in
-    let rows = younger-members es (a .n) long (a .x) (y .result) (y .ensures) h in
-    let stands = younger-stands es (a .n) long (a .x) (y .result) (y .ensures) (m .pre .1 .1 .0) h in
+    let rows = younger-members es (a .n) long (a .x) (y .result) q h in
+    let stands = younger-stands es (a .n) long (a .x) (y .result) q (m .pre .1 .1 .0) h in
     let room = text-room (a .n) (now (a .t)) (a .x) (a .most) (now (a .out)) (m .pre .1 .1 .0) some (m .pre .1 .1 .1) (c .before .before .before .before .before .before .write .ensures)
     (membersFrom es (turn (a .x .root) (y .result) (a .x .family) (a .x .rank + 1))) rows in
     (omega (arith, ap length rows, m .pre .0), (m .pre .1 .0, (stands, room)))
@@ -157,21 +159,22 @@ member-step-member-step-requires t c κs =
 -- the row and the stretch behind it are the whole stretch
 younger-written : (t : ℕ) → member-step-lts.Need-returns-2 (member-calls t) (member-step-at t) member-step.Post
 younger-written t c =
-    let m = c .before .before .before .before .before .before .before .before .before .before .before .before .before .before .before .before in
+    let m = c .before .before .before .before .before .before .before .before .before .before .before .before .before .before .before .before .before in
     let a = m .args in
     let es = eldersIn (a .n) (now (a .t)) in
     let long = length-elders-in (a .n) (now (a .t)) in
     let y = c .before .before .before .before .before .before .before .before .younger in
+    let q = is-younger (m .pre .1 .0) (m .pre .1 .1 .0 .inside) (y .ensures) in
     let h = c .before .before .before .before .before .before .before .if2 .taken in
     let some : 0 < a .most = omega (arith, c .before .before .before .before .before .before .before .before .before .before .before .before .before .if1 .left) in
-    let rows = younger-members es (a .n) long (a .x) (y .result) (y .ensures) h in
+    let rows = younger-members es (a .n) long (a .x) (y .result) q h in
     went-on (a .n) (now (a .t)) (a .x) (a .most) (now (a .out)) (m .pre .1 .1 .0) some (m .pre .1 .1 .1) (c .before .before .before .before .before .before .before .before .before .before .before .write .ensures)
     (membersFrom es (turn (a .x .root) (y .result) (a .x .family) (a .x .rank + 1))) rows (c .before .before .before .before .member-step .ensures)
 
-member-step-add-t17 : (t : ℕ) → member-step-lts.Need-add-t17 (member-calls t) (member-step-at t) member-step.Post
-member-step-add-t17 t c =
-    let m = c .before .before .before .before .before .before .before .before .before .before .before .before .before .before .before .before in
-    omega (arith, younger-written t c .text .long, m .pre .1 .1 .1, m .good .1 .1 .1 .1 .0 .0)
+member-step-add-t18 : (t : ℕ) → member-step-lts.Need-add-t18 (member-calls t) (member-step-at t) member-step.Post
+member-step-add-t18 t c =
+    let m = c .before .before .before .before .before .before .before .before .before .before .before .before .before .before .before .before .before in
+    omega (arith, younger-written t c .text .long, m .pre .1 .1 .1, m .good .1 .1 .1 .1 .1 .0 .0)
 
 member-step-same-length : (t : ℕ) → member-step-lts.Need-same-length (member-calls t) (member-step-at t) member-step.Post
 member-step-same-length t c = keeps-length (younger-written t c .text)
@@ -181,12 +184,12 @@ member-step-returns-2 t c = younger-written t c
 
 member-step-add-family-step : (t : ℕ) → member-step-lts.Need-add-family-step (member-calls t) (member-step-at t) member-step.Post
 member-step-add-family-step t c =
-    let m = c .before .before .before .before .before .before .before .before .before .before in
+    let m = c .before .before .before .before .before .before .before .before .before .before .before in
     omega (arith, m .pre .1, m .good .0)
 
 member-step-add-family-step-2 : (t : ℕ) → member-step-lts.Need-add-family-step-2 (member-calls t) (member-step-at t) member-step.Post
 member-step-add-family-step-2 t c =
-    let m = c .before .before .before .before .before .before .before .before .before .before .before in
+    let m = c .before .before .before .before .before .before .before .before .before .before .before .before in
     omega (arith, m .pre .1, m .good .0)
 
 member-step-sub-family-step : (t : ℕ) → member-step-lts.Need-sub-family-step (member-calls t) (member-step-at t) member-step.Post
@@ -194,14 +197,14 @@ member-step-sub-family-step t c = omega (arith, c .before .before .before .befor
 
 member-step-sub-family-step-2 : (t : ℕ) → member-step-lts.Need-sub-family-step-2 (member-calls t) (member-step-at t) member-step.Post
 member-step-sub-family-step-2 t c =
-    let m = c .before .before .before .before .before .before .before .before .before .before .before in
+    let m = c .before .before .before .before .before .before .before .before .before .before .before .before in
     let a = m .args in
     let h : 0 < a .most = omega (arith, c .before .before .before .before .before .before .before .before .if1 .left) in
     row-inside (a .n) (now (a .t)) (a .x) (a .most) (now (a .out)) (m .pre .1 .1 .0) h (m .pre .1 .1 .1) (c .before .before .before .before .before .before .write .ensures)
 
 member-step-part-family-step-start : (t : ℕ) → member-step-lts.Need-part-family-step-start (member-calls t) (member-step-at t) member-step.Post
 member-step-part-family-step-start t c =
-    let m = c .before .before .before .before .before .before .before .before .before .before .before in
+    let m = c .before .before .before .before .before .before .before .before .before .before .before .before in
     let a = m .args in
     let h : 0 < a .most = omega (arith, c .before .before .before .before .before .before .before .before .if1 .left) in
     row-inside (a .n) (now (a .t)) (a .x) (a .most) (now (a .out)) (m .pre .1 .1 .0) h (m .pre .1 .1 .1) (c .before .before .before .before .before .before .write .ensures)
@@ -211,14 +214,15 @@ member-step-part-family-step-end t c = search needs
 
 member-step-family-step-requires : (t : ℕ) → member-step-lts.Need-family-step-requires (member-calls t) (member-step-at t) member-step.Post
 member-step-family-step-requires t c κs =
-    let m = c .before .before .before .before .before .before .before .before .before .before .before .before in
+    let m = c .before .before .before .before .before .before .before .before .before .before .before .before .before in
     let a = m .args in
     let es = eldersIn (a .n) (now (a .t)) in
     let long = length-elders-in (a .n) (now (a .t)) in
     let y = c .before .before .before .before .younger in
+    let q = is-younger (m .pre .1 .0) (m .pre .1 .1 .0 .inside) (y .ensures) in
     let h = c .before .before .before .if2 .left in
     let some : 0 < a .most = omega (arith, c .before .before .before .before .before .before .before .before .before .if1 .left) in
-    let rows = last-members es (a .n) long (a .x) (y .result) (y .ensures) h in
+    let rows = last-members es (a .n) long (a .x) (y .result) q h in
     let room = text-room (a .n) (now (a .t)) (a .x) (a .most) (now (a .out)) (m .pre .1 .1 .0) some (m .pre .1 .1 .1) (c .before .before .before .before .before .before .before .write .ensures)
     (familiesFrom es (a .x .root + 1) (a .x .family + 1)) rows in
     (omega (arith, ap length rows, m .pre .0), (m .pre .1 .0, (omega (arith, m .pre .1 .1 .0), (omega (arith, m .pre .1 .1 .0), room))))
@@ -226,21 +230,22 @@ member-step-family-step-requires t c κs =
 -- the row and the stretch behind it are the whole stretch
 last-written : (t : ℕ) → member-step-lts.Need-returns-3 (member-calls t) (member-step-at t) member-step.Post
 last-written t c =
-    let m = c .before .before .before .before .before .before .before .before .before .before .before .before .before .before .before .before .before in
+    let m = c .before .before .before .before .before .before .before .before .before .before .before .before .before .before .before .before .before .before in
     let a = m .args in
     let es = eldersIn (a .n) (now (a .t)) in
     let long = length-elders-in (a .n) (now (a .t)) in
     let y = c .before .before .before .before .before .before .before .before .before .younger in
+    let q = is-younger (m .pre .1 .0) (m .pre .1 .1 .0 .inside) (y .ensures) in
     let h = c .before .before .before .before .before .before .before .before .if2 .left in
     let some : 0 < a .most = omega (arith, c .before .before .before .before .before .before .before .before .before .before .before .before .before .before .if1 .left) in
-    let rows = last-members es (a .n) long (a .x) (y .result) (y .ensures) h in
+    let rows = last-members es (a .n) long (a .x) (y .result) q h in
     went-on (a .n) (now (a .t)) (a .x) (a .most) (now (a .out)) (m .pre .1 .1 .0) some (m .pre .1 .1 .1) (c .before .before .before .before .before .before .before .before .before .before .before .before .write .ensures)
     (familiesFrom es (a .x .root + 1) (a .x .family + 1)) rows (c .before .before .before .before .family-step .ensures)
 
-member-step-add-t22 : (t : ℕ) → member-step-lts.Need-add-t22 (member-calls t) (member-step-at t) member-step.Post
-member-step-add-t22 t c =
-    let m = c .before .before .before .before .before .before .before .before .before .before .before .before .before .before .before .before .before in
-    omega (arith, last-written t c .text .long, m .pre .1 .1 .1, m .good .1 .1 .1 .1 .0 .0)
+member-step-add-t23 : (t : ℕ) → member-step-lts.Need-add-t23 (member-calls t) (member-step-at t) member-step.Post
+member-step-add-t23 t c =
+    let m = c .before .before .before .before .before .before .before .before .before .before .before .before .before .before .before .before .before .before in
+    omega (arith, last-written t c .text .long, m .pre .1 .1 .1, m .good .1 .1 .1 .1 .1 .0 .0)
 
 member-step-same-length-2 : (t : ℕ) → member-step-lts.Need-same-length-2 (member-calls t) (member-step-at t) member-step.Post
 member-step-same-length-2 t c = keeps-length (last-written t c .text)
@@ -263,13 +268,13 @@ pub +family-step+member-step-spec : {M : Type 1} → statement M
     (member-step-returns t)
     (member-step-write-requires t)
     (member-step-younger-requires t)
-    (member-step-add-t16 t)
+    (member-step-add-t17 t)
     (member-step-sub-member-step t)
     (member-step-sub-member-step-2 t)
     (member-step-part-member-step-start t)
     (member-step-part-member-step-end t)
     (member-step-member-step-requires t)
-    (member-step-add-t17 t)
+    (member-step-add-t18 t)
     (member-step-same-length t)
     (member-step-returns-2 t)
     (member-step-add-family-step t)
@@ -279,6 +284,6 @@ pub +family-step+member-step-spec : {M : Type 1} → statement M
     (member-step-part-family-step-start t)
     (member-step-part-family-step-end t)
     (member-step-family-step-requires t)
-    (member-step-add-t22 t)
+    (member-step-add-t23 t)
     (member-step-same-length-2 t)
     (member-step-returns-3 t))

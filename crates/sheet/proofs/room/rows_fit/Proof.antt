@@ -7,13 +7,13 @@ use Rattle.sheet.proofs.room.rows_fit.Statement.{statement}
 use Rattle.sheet.proofs.room.rows_fit.Tie as tie
 
 abbrev Inv-loop : tie.InvT-loop
-Inv-loop t n most space free₀ left₀ x₀ free left x = Fitting t n (textLeft n t most x₀) space free left x
+Inv-loop t kin n most space free₀ left₀ x₀ free left x = Fitting t n (textLeft n t most x₀) space free left x
 
 abbrev μ-loop : tie.MeasureT-loop
-μ-loop t n most space free₀ left₀ x₀ free left x = left
+μ-loop t kin n most space free₀ left₀ x₀ free left x = left
 
 loop-holds : tie.Need-loop-holds Inv-loop μ-loop
-loop-holds c = fitting-first (c .before .pre .1)
+loop-holds c = fitting-first (c .before .before .pre .1)
 
 returns : tie.Need-returns Inv-loop μ-loop
 returns c = all-fit (c .before .before .before .loop .inv) (c .if1 .taken)
@@ -28,7 +28,7 @@ sub-left : tie.Need-sub-left Inv-loop μ-loop
 sub-left c = search needs
 
 next-requires : tie.Need-next-requires Inv-loop μ-loop
-next-requires c κs = (c .before .before .before .before .before .before .before .pre .0, c .before .before .before .before .before .loop .inv .stands (c .before .before .if1 .left))
+next-requires c κs = (c .before .before .before .before .before .before .before .before .pre .0, c .before .before .before .before .before .loop .inv .stands (c .before .before .if1 .left))
 
 loop-less : tie.Need-loop-less Inv-loop μ-loop
 loop-less c = search needs
