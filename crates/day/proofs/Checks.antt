@@ -16,7 +16,7 @@ use Rattle.order.specs.Names.{keyOf, seriesOf, sameSeries}
 use Rattle.order.specs.declared.Key.{Key}
 use Rattle.order.specs.declared.Order.{Order}
 use Rattle.day.specs.History.{History, isNew, isExecution, isBreak, isCancel, isReplace, isReprice, isMaker}
-use Rattle.day.specs.History.{executedOf, brokenOf, openOf, makers, orderOf, ordersOf, known, making}
+use Rattle.day.specs.History.{executedOf, brokenOf, openOf, linesThatMake, orderOf, ordersOf, known, lineThatMade}
 use Rattle.day.specs.Machine.{Found, nobody, found, find, differs, notOpen, notExecuted, checks, refusalOf}
 use Rattle.day.specs.Refusals.{subject, OfOrder, DayOver, KnownKey, UnknownKey, OtherSeries, NotOpen, NotExecuted, Full}
 use Rattle.day.specs.Refusals.{Reads, rules}
@@ -76,10 +76,10 @@ module _ (limit : ℕ) (h : History) (l : Legal h) where
 
   -- a test of the order that the line speaks of, as the lookup finds it
   of-theirs : (r : Record) {P : Type 0} (test : Found → Bool) → test nobody ≡ false
-      → (known (subject r) h ≡ true → Says (test (found (orderOf h (making (subject r) h r)))) P)
+      → (known (subject r) h ≡ true → Says (test (found (orderOf h (lineThatMade (subject r) h r)))) P)
       → Says (not (isNew (r .event)) && test (find (subject r) (ordersOf h))) (OfOrder h r P)
   of-theirs r test n s =
-      rw (find-order (subject r) r h l) (of-order (isNew (r .event)) (known (subject r) h) (orderOf h (making (subject r) h r)) test n s)
+      rw (find-order (subject r) r h l) (of-order (isNew (r .event)) (known (subject r) h) (orderOf h (lineThatMade (subject r) h r)) test n s)
 
   day-over : Law 6 (DayOver h)
   day-over x = Iff·rfl
@@ -97,7 +97,7 @@ module _ (limit : ℕ) (h : History) (l : Legal h) where
   other-series : Law 9 (OtherSeries h)
   other-series endOfDay = never
   other-series (line r) =
-      let m = making (subject r) h r in
+      let m = lineThatMade (subject r) h r in
       of-theirs r (differs r) refl
       (λ k. not-so (and-says (eqb (m .side) (r .side)) (sameSeries (seriesOf m) (seriesOf r)) (eqb-says (m .side) (r .side)) (series-same (seriesOf m) (seriesOf r))))
 
@@ -124,8 +124,8 @@ module _ (limit : ℕ) (h : History) (l : Legal h) where
   full : Law 12 (Full limit h)
   full endOfDay = never
   full (line r) =
-      rw (length-map (makers h) (orderOf h))
-      (and-says (isMaker (r .event)) (leb limit (length (makers h))) Iff·rfl (leb-says limit (length (makers h))))
+      rw (length-map (linesThatMake h) (orderOf h))
+      (and-says (isMaker (r .event)) (leb limit (length (linesThatMake h))) Iff·rfl (leb-says limit (length (linesThatMake h))))
 
   -- ---- so booking refuses what a piece says by the first that applies, and never by 3
 

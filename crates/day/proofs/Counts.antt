@@ -15,7 +15,7 @@ use Rattle.order.specs.declared.Key.{Key}
 use Rattle.order.specs.declared.Order.{Order}
 use Rattle.day.specs.Damage.{eldersOf}
 use Rattle.day.specs.Demand3.{historyAfter}
-use Rattle.day.specs.History.{History, isNew, isMaker, isReplace, addIf, makers, orderOf, ordersOf, countOf}
+use Rattle.day.specs.History.{History, isNew, isMaker, isReplace, addIf, linesThatMake, orderOf, ordersOf, countOf}
 use Rattle.day.specs.Walk.{rootCount}
 use Rattle.day.specs.Machine.{place, amend, withFigures, newOrder, bookEvent, book}
 use Rattle.day.proofs.Legal.{Legal, elder-known}
@@ -25,17 +25,17 @@ use Rattle.day.proofs.Steps.{booked}
 
 -- ---- orders
 
-makers-count : (h : History) → length (makers h) ≡ countOf isMaker h
+makers-count : (h : History) → length (linesThatMake h) ≡ countOf isMaker h
 makers-count [] = refl
 makers-count (endOfDay ∷ h) = makers-count h
 makers-count (line r ∷ h) = go (isMaker (r .event)) (makers-count h)
   where
-    go : (t : Bool) → length (makers h) ≡ countOf isMaker h → length (cond t (makers h ++ (r ∷ [])) (makers h)) ≡ addIf t 1 (countOf isMaker h)
-    go true ih = length-append (makers h) (r ∷ []) ∙ ap (λ (n : ℕ). n + 1) ih
+    go : (t : Bool) → length (linesThatMake h) ≡ countOf isMaker h → length (cond t (linesThatMake h ++ (r ∷ [])) (linesThatMake h)) ≡ addIf t 1 (countOf isMaker h)
+    go true ih = length-append (linesThatMake h) (r ∷ []) ∙ ap (λ (n : ℕ). n + 1) ih
     go false ih = ih
 
 pub counts : (h : History) → length (ordersOf h) ≡ countOf isMaker h
-counts h = length-map (makers h) (orderOf h) ∙ makers-count h
+counts h = length-map (linesThatMake h) (orderOf h) ∙ makers-count h
 
 -- ---- orders without an elder
 

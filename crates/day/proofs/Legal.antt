@@ -10,7 +10,7 @@ use Rattle.layout.specs.declared.Event.the-variants.{Accepted, Executed, Cancel
 use Rattle.layout.specs.declared.Record.{Record}
 use Rattle.order.specs.Names.{keyOf, elderKeyOf, sameKey}
 use Rattle.order.specs.declared.Key.{Key}
-use Rattle.day.specs.History.{History, isNew, isReplace, isMaker, makes, about, replaces, sumOf, passedOf, makers, known}
+use Rattle.day.specs.History.{History, isNew, isReplace, isMaker, madeBy, about, replaces, sumOf, passedOf, linesThatMake, known}
 use Rattle.day.specs.Refusals.{subject}
 use Rattle.run.proofs.Tests.{neither}
 use Rattle.order.proofs.Sameness.{key-eq, key-comm, key-self}
@@ -77,14 +77,14 @@ pub unknown-sum : (kind : Event → Bool) (k : Key) (h : History) → known k h 
 unknown-sum kind k [] n = refl
 unknown-sum kind k (endOfDay ∷ h) n = unknown-sum kind k h n
 unknown-sum kind k (line r ∷ h) n =
-    let before = neither (makes k r) (known k h) n .1 in
+    let before = neither (madeBy k r) (known k h) n .1 in
     rw before (simp and-false (unknown-sum kind k h before))
 
 pub unknown-passed : (k : Key) (h : History) → Legal h → known k h ≡ false → passedOf k h ≡ 0
 unknown-passed k [] l n = refl
 unknown-passed k (endOfDay ∷ h) l n = unknown-passed k h l n
 unknown-passed k (line r ∷ h) l n =
-    let before = neither (makes k r) (known k h) n .1 in
+    let before = neither (madeBy k r) (known k h) n .1 in
     rw (unreplaced h r k (l .0) before) (unknown-passed k h (l .1) before)
 
 -- ---- the lines that made an order
@@ -93,13 +93,13 @@ unknown-passed k (line r ∷ h) l n =
 abbrev pub Made : History → Record → Type 0
 Made h m = (known (keyOf m) h ≡ true) × (isReplace (m .event) ≡ true → known (elderKeyOf m) h ≡ true)
 
-pub made : (h : History) (m : Record) → Legal h → List·Memᴰ m (makers h) → Made h m
+pub made : (h : History) (m : Record) → Legal h → List·Memᴰ m (linesThatMake h) → Made h m
 made [] m l i = absurd (List·Memᴰ·not-nil i)
 made (endOfDay ∷ h) m l i = made h m l i
 made (line r ∷ h) m l i = go (isMaker (r .event)) refl (made h m (l .1))
   where
     still : (k : Key) → known k h ≡ true → known k (line r ∷ h) ≡ true
-    still k e = rw e (or-true (makes k r))
+    still k e = rw e (or-true (madeBy k r))
 
     older : Made h m → Made (line r ∷ h) m
     older x = (still (keyOf m) (x .0), λ q. still (elderKeyOf m) (x .1 q))
@@ -107,10 +107,10 @@ made (line r ∷ h) m l i = go (isMaker (r .event)) refl (made h m (l .1))
     newest : isMaker (r .event) ≡ true → Made (line r ∷ h) r
     newest q = (rw (q, key-self (keyOf r)), λ e. still (elderKeyOf r) (elder-known h r (l .0) e))
 
-    either : isMaker (r .event) ≡ true → (List·Memᴰ m (makers h) → Made h m) → List·Memᴰ m (makers h) ⊎ List·Memᴰ m (r ∷ []) → Made (line r ∷ h) m
+    either : isMaker (r .event) ≡ true → (List·Memᴰ m (linesThatMake h) → Made h m) → List·Memᴰ m (linesThatMake h) ⊎ List·Memᴰ m (r ∷ []) → Made (line r ∷ h) m
     either q ih (inl j) = older (ih j)
     either q ih (inr j) = subst (Made (line r ∷ h)) (sym (List·Memᴰ·eq-of-singleton j)) (newest q)
 
-    go : (t : Bool) → isMaker (r .event) ≡ t → (List·Memᴰ m (makers h) → Made h m) → Made (line r ∷ h) m
-    go true q ih = either q ih (List·Memᴰ·append-cases (makers h) (rw q at i))
+    go : (t : Bool) → isMaker (r .event) ≡ t → (List·Memᴰ m (linesThatMake h) → Made h m) → Made (line r ∷ h) m
+    go true q ih = either q ih (List·Memᴰ·append-cases (linesThatMake h) (rw q at i))
     go false q ih = older (ih (rw q at i))

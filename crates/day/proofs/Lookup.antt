@@ -9,7 +9,7 @@ use Rattle.layout.specs.declared.Record.{Record}
 use Rattle.order.specs.Names.{keyOf, sameKey}
 use Rattle.order.specs.declared.Key.{Key}
 use Rattle.order.specs.declared.Order.{Order}
-use Rattle.day.specs.History.{History, isMaker, makes, makers, oneMore, placeOf, orderOf, ordersOf, known, making, isOver}
+use Rattle.day.specs.History.{History, isMaker, madeBy, linesThatMake, oneMore, placeOf, orderOf, ordersOf, known, lineThatMade, isOver}
 use Rattle.day.specs.Machine.{Found, nobody, found, find, isFound, place, amend}
 use Rattle.day.specs.Tables.{Table, empty, withOrders, withMark}
 use Rattle.run.proofs.Tests.{both}
@@ -64,13 +64,13 @@ changed k f o = cond (sameKey (o .key) k) (f o) o
 
 -- ---- the orders that the lines of a legal history made
 
-pub made-key : (k : Key) (none : Record) (h : History) → known k h ≡ true → keyOf (making k h none) ≡ k
+pub made-key : (k : Key) (none : Record) (h : History) → known k h ≡ true → keyOf (lineThatMade k h none) ≡ k
 made-key k none [] e = absurd (false≢true e)
 made-key k none (endOfDay ∷ h) e = made-key k none h e
-made-key k none (line r ∷ h) e = go (makes k r) refl (made-key k none h) e
+made-key k none (line r ∷ h) e = go (madeBy k r) refl (made-key k none h) e
   where
-    go : (t : Bool) → makes k r ≡ t → (known k h ≡ true → keyOf (making k h none) ≡ k)
-        → (t || known k h) ≡ true → keyOf (cond t r (making k h none)) ≡ k
+    go : (t : Bool) → madeBy k r ≡ t → (known k h ≡ true → keyOf (lineThatMade k h none) ≡ k)
+        → (t || known k h) ≡ true → keyOf (cond t r (lineThatMade k h none)) ≡ k
     go true q ih e = key-eq (keyOf r) k (both (isMaker (r .event)) (sameKey (keyOf r) k) q .1)
     go false q ih e = ih e
 
@@ -85,7 +85,7 @@ module _ (g : Record → Order) (keys : (m : Record) → g m .key ≡ keyOf m) w
 
   -- a lookup finds the order that the line with that key made
   find-made : (k : Key) (none : Record) (h : History) → Legal h
-      → find k (map g (makers h)) ≡ cond (known k h) (found (g (making k h none))) nobody
+      → find k (map g (linesThatMake h)) ≡ cond (known k h) (found (g (lineThatMade k h none))) nobody
   find-made k none [] l = refl
   find-made k none (endOfDay ∷ h) l = find-made k none h l
   find-made k none (line r ∷ h) l = go (isMaker (r .event)) refl (find-made k none h (l .1))
@@ -98,23 +98,23 @@ module _ (g : Record → Order) (keys : (m : Record) → g m .key ≡ keyOf m) w
       last false false x n = refl
 
       go : (t : Bool) → isMaker (r .event) ≡ t
-          → find k (map g (makers h)) ≡ cond (known k h) (found (g (making k h none))) nobody
-          → find k (map g (makers (line r ∷ h))) ≡ cond (known k (line r ∷ h)) (found (g (making k (line r ∷ h) none))) nobody
+          → find k (map g (linesThatMake h)) ≡ cond (known k h) (found (g (lineThatMade k h none))) nobody
+          → find k (map g (linesThatMake (line r ∷ h))) ≡ cond (known k (line r ∷ h)) (found (g (lineThatMade k (line r ∷ h) none))) nobody
       go true q ih =
-          rw (q, map-append g (makers h) (r ∷ []), find-append, ih, key-test k r)
-          (last (sameKey (keyOf r) k) (known k h) (making k h none) (fresh-unknown h r k (l .0) q))
+          rw (q, map-append g (linesThatMake h) (r ∷ []), find-append, ih, key-test k r)
+          (last (sameKey (keyOf r) k) (known k h) (lineThatMade k h none) (fresh-unknown h r k (l .0) q))
       go false q ih = rw q ih
 
-  found-known : (k : Key) (none : Record) (h : History) → Legal h → isFound (find k (map g (makers h))) ≡ known k h
+  found-known : (k : Key) (none : Record) (h : History) → Legal h → isFound (find k (map g (linesThatMake h))) ≡ known k h
   found-known k none h l = ap isFound (find-made k none h l) ∙ go (known k h)
     where
-      go : (t : Bool) → isFound (cond t (found (g (making k h none))) nobody) ≡ t
+      go : (t : Bool) → isFound (cond t (found (g (lineThatMade k h none))) nobody) ≡ t
       go true = refl
       go false = refl
 
   -- a change by key is a change of every order that has the key
   amend-made : (k : Key) (f : Order → Order) (h : History) → Legal h
-      → amend k f (map g (makers h)) ≡ map (λ m. changed k f (g m)) (makers h)
+      → amend k f (map g (linesThatMake h)) ≡ map (λ m. changed k f (g m)) (linesThatMake h)
   amend-made k f [] l = refl
   amend-made k f (endOfDay ∷ h) l = amend-made k f h l
   amend-made k f (line r ∷ h) l = go (isMaker (r .event)) refl (amend-made k f h (l .1))
@@ -127,12 +127,12 @@ module _ (g : Record → Order) (keys : (m : Record) → g m .key ≡ keyOf m) w
       last false false n os = refl
 
       go : (t : Bool) → isMaker (r .event) ≡ t
-          → amend k f (map g (makers h)) ≡ map (λ m. changed k f (g m)) (makers h)
-          → amend k f (map g (makers (line r ∷ h))) ≡ map (λ m. changed k f (g m)) (makers (line r ∷ h))
+          → amend k f (map g (linesThatMake h)) ≡ map (λ m. changed k f (g m)) (linesThatMake h)
+          → amend k f (map g (linesThatMake (line r ∷ h))) ≡ map (λ m. changed k f (g m)) (linesThatMake (line r ∷ h))
       go true q ih =
           let c : Record → Order = λ m. changed k f (g m) in
-          rw (q, map-append g (makers h) (r ∷ []), map-append c (makers h) (r ∷ []), amend-append, found-known k r h (l .1), ih, key-test k r)
-          (last (sameKey (keyOf r) k) (known k h) (fresh-unknown h r k (l .0) q) (map c (makers h)))
+          rw (q, map-append g (linesThatMake h) (r ∷ []), map-append c (linesThatMake h) (r ∷ []), amend-append, found-known k r h (l .1), ih, key-test k r)
+          (last (sameKey (keyOf r) k) (known k h) (fresh-unknown h r k (l .0) q) (map c (linesThatMake h)))
       go false q ih = rw q ih
 
 -- ---- the table that a history declares
@@ -140,25 +140,25 @@ module _ (g : Record → Order) (keys : (m : Record) → g m .key ≡ keyOf m) w
 abbrev pub dayOf : History → Table
 dayOf h = withMark (isOver h) (withOrders (ordersOf h) empty)
 
-pub place-order : (k : Key) (h : History) → place k (ordersOf h) ≡ placeOf k (makers h)
-place-order k h = place-map (orderOf h) (λ m. refl) k (makers h)
+pub place-order : (k : Key) (h : History) → place k (ordersOf h) ≡ placeOf k (linesThatMake h)
+place-order k h = place-map (orderOf h) (λ m. refl) k (linesThatMake h)
 
 pub find-order : (k : Key) (none : Record) (h : History) → Legal h
-    → find k (ordersOf h) ≡ cond (known k h) (found (orderOf h (making k h none))) nobody
+    → find k (ordersOf h) ≡ cond (known k h) (found (orderOf h (lineThatMade k h none))) nobody
 find-order k none h l = find-made (orderOf h) (λ m. refl) k none h l
 
 pub is-known : (k : Key) (none : Record) (h : History) → Legal h → isFound (find k (ordersOf h)) ≡ known k h
 is-known k none h l = found-known (orderOf h) (λ m. refl) k none h l
 
 pub amend-orders : (k : Key) (f : Order → Order) (h : History) → Legal h
-    → amend k f (ordersOf h) ≡ map (λ m. changed k f (orderOf h m)) (makers h)
+    → amend k f (ordersOf h) ≡ map (λ m. changed k f (orderOf h m)) (linesThatMake h)
 amend-orders k f h l = amend-made (orderOf h) (λ m. refl) k f h l
 
 -- who has a place keeps it when a line makes one more order
-pub place-kept : (k : Key) (r : Record) (h : History) → Legal h → known k h ≡ true → placeOf k (makers h ++ (r ∷ [])) ≡ placeOf k (makers h)
+pub place-kept : (k : Key) (r : Record) (h : History) → Legal h → known k h ≡ true → placeOf k (linesThatMake h ++ (r ∷ [])) ≡ placeOf k (linesThatMake h)
 place-kept k r h l e =
     let g = orderOf h in
-    sym (place-map g (λ m. refl) k (makers h ++ (r ∷ [])))
-    ∙ ap (place k) (map-append g (makers h) (r ∷ []))
+    sym (place-map g (λ m. refl) k (linesThatMake h ++ (r ∷ [])))
+    ∙ ap (place k) (map-append g (linesThatMake h) (r ∷ []))
     ∙ place-found k (ordersOf h) (g r ∷ []) (is-known k r h l ∙ e) .1
     ∙ place-order k h

@@ -12,7 +12,7 @@ use Rattle.order.specs.declared.Key.{Key}
 use Rattle.order.specs.declared.Order.{Order}
 use Rattle.day.specs.Damage.{eldersOf, unshared, undamaged}
 use Rattle.day.specs.Demand3.{Tells, AddsUp, IsSheet}
-use Rattle.day.specs.History.{History, figuresOf, makers, orderOf, ordersOf}
+use Rattle.day.specs.History.{History, figuresOf, linesThatMake, orderOf, ordersOf}
 use Rattle.day.specs.Listing.{Member, Row, Sheet, membersOf, Each}
 use Rattle.day.specs.Tables.{Table}
 use Rattle.day.specs.Walk.{rowBefore, rowsFor}
@@ -56,7 +56,7 @@ figured h (r ∷ rs) (suc i) o l e = figured h rs i o l e
 pub rows-told : (h : History) (members : List Member) → Each (Tells h) (rowsFor (ordersOf h) members)
 rows-told h = rows-each (Tells h) (ordersOf h) (λ m o l e. record {
   key = λ none. ap (λ (x : Order). x .key) (sym (front-at (ordersOf h) (m .at) o l none e));
-  figures = figured h (makers h) (m .at) o l e;
+  figures = figured h (linesThatMake h) (m .at) o l e;
 })
 
 pub rows-add-up : (limit : ℕ) (t : Table) → undamaged limit t ≡ true → (members : List Member) → Each AddsUp (rowsFor (t .orders) members)

@@ -16,7 +16,7 @@ use Rattle.order.specs.declared.Figures.{Figures}
 use Rattle.order.specs.declared.Key.{Key}
 use Rattle.order.specs.declared.Order.{Order}
 use Rattle.day.specs.History.{History, isExecution, isBreak, isCancel, isReplace, isMaker, replaces, addIf, sumOf, left}
-use Rattle.day.specs.History.{grants, makers, placeOf, elderOf, orderOf, ordersOf}
+use Rattle.day.specs.History.{grants, linesThatMake, placeOf, elderOf, orderOf, ordersOf}
 use Rattle.day.specs.Machine.{place, amend, withFigures, withPrice, newOrder, bookEvent}
 use Rattle.order.proofs.Sameness.{key-self, key-comm}
 use Rattle.day.proofs.Legal.{Follows, Legal, elder-known, apart, unreplaced, named-known, unknown-sum, unknown-passed, Made, made}
@@ -97,11 +97,11 @@ module _ (h : History) (r m : Record) (f : Follows h r) where
   repriced-order : r .event ≡ Repriced → changed (keyOf r) (withPrice (r .price)) (orderOf h m) ≡ orderOf (line r ∷ h) m
   repriced-order q = rw (q, key-comm (keyOf m) (keyOf r), named-known h r (keyOf m) f (ap isMaker q)) (with-price named (r .price) (orderOf h m))
 
-  elder-kept : Legal h → Made h m → elderOf m (makers h ++ (r ∷ [])) ≡ elderOf m (makers h)
+  elder-kept : Legal h → Made h m → elderOf m (linesThatMake h ++ (r ∷ [])) ≡ elderOf m (linesThatMake h)
   elder-kept l d = go (isReplace (m .event)) refl
     where
       go : (t : Bool) → isReplace (m .event) ≡ t
-          → cond t (placeOf (elderKeyOf m) (makers h ++ (r ∷ []))) 0 ≡ cond t (placeOf (elderKeyOf m) (makers h)) 0
+          → cond t (placeOf (elderKeyOf m) (linesThatMake h ++ (r ∷ []))) 0 ≡ cond t (placeOf (elderKeyOf m) (linesThatMake h)) 0
       go true q = place-kept (elderKeyOf m) r h l (d .1 q)
       go false q = refl
 
@@ -115,7 +115,7 @@ module _ (h : History) (r m : Record) (f : Follows h r) where
 
 -- A and U, of the order that it makes
 new-order : (h : History) (r : Record) → Legal h → Follows h r → isMaker (r .event) ≡ true
-    → newOrder r (grants h r) (elderOf r (makers h ++ (r ∷ []))) ≡ orderOf (line r ∷ h) r
+    → newOrder r (grants h r) (elderOf r (linesThatMake h ++ (r ∷ []))) ≡ orderOf (line r ∷ h) r
 new-order h r l f q =
     let k = keyOf r in
     let n = f .fresh q in
@@ -135,23 +135,23 @@ module _ (h : History) (r : Record) (l : Legal h) (f : Follows h r) where
       → ((m : Record) → changed k c (orderOf h m) ≡ orderOf (line r ∷ h) m)
       → amend k c (ordersOf h) ≡ ordersOf (line r ∷ h)
   amended k c q e =
-      let kept : makers (line r ∷ h) ≡ makers h = rw q in
+      let kept : linesThatMake (line r ∷ h) ≡ linesThatMake h = rw q in
       amend-orders k c h l
-      ∙ map-same (λ m. changed k c (orderOf h m)) (orderOf (line r ∷ h)) (makers h) (λ m i. e m)
+      ∙ map-same (λ m. changed k c (orderOf h m)) (orderOf (line r ∷ h)) (linesThatMake h) (λ m i. e m)
       ∙ ap (map (orderOf (line r ∷ h))) (sym kept)
 
   -- a line that makes one
   appended : (c : Record → Order) (elder : ℕ) → isMaker (r .event) ≡ true
       → ((m : Record) → c m ≡ cond (replaces (keyOf m) r) (withFigures passedOn (orderOf h m)) (orderOf h m))
-      → elder ≡ elderOf r (makers h ++ (r ∷ []))
-      → map c (makers h) ++ (newOrder r (grants h r) elder ∷ []) ≡ ordersOf (line r ∷ h)
+      → elder ≡ elderOf r (linesThatMake h ++ (r ∷ []))
+      → map c (linesThatMake h) ++ (newOrder r (grants h r) elder ∷ []) ≡ ordersOf (line r ∷ h)
   appended c elder q e n =
-      let more : makers (line r ∷ h) ≡ makers h ++ (r ∷ []) = rw q in
+      let more : linesThatMake (line r ∷ h) ≡ linesThatMake h ++ (r ∷ []) = rw q in
       let g = orderOf (line r ∷ h) in
       ap₂ (λ (os : List Order) (o : Order). os ++ (o ∷ []))
-      (map-same c g (makers h) (λ m i. e m ∙ older-order h r m f l q (made h m l i)))
+      (map-same c g (linesThatMake h) (λ m i. e m ∙ older-order h r m f l q (made h m l i)))
       (ap (newOrder r (grants h r)) n ∙ new-order h r l f q)
-      ∙ sym (map-append g (makers h) (r ∷ []))
+      ∙ sym (map-append g (linesThatMake h) (r ∷ []))
       ∙ ap (map g) (sym more)
 
   pub booked : bookEvent (r .event) r (ordersOf h) ≡ ordersOf (line r ∷ h)

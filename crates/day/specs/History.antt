@@ -49,14 +49,14 @@ isMaker e = isNew e || isReplace e
 -- ---- which lines say something of the order with a key
 
 -- the line that makes it
-abbrev pub makes : Key → Record → Bool
-makes k r = isMaker (r .event) && sameKey (keyOf r) k
+abbrev pub madeBy : Key → Record → Bool
+madeBy k r = isMaker (r .event) && sameKey (keyOf r) k
 
 -- an accepted line made an order with this key
 abbrev pub known : Key → History → Bool
 known k [] = false
 known k (endOfDay ∷ h) = known k h
-known k (line r ∷ h) = makes k r || known k h
+known k (line r ∷ h) = madeBy k r || known k h
 
 -- E, C, X and R that name it, where h was accepted before: an order that the line could find
 abbrev pub about : Key → History → Record → Bool
@@ -98,7 +98,7 @@ grants h r = r .contracts
 abbrev pub sizeOf : Key → History → ℕ
 sizeOf k [] = 0
 sizeOf k (endOfDay ∷ h) = sizeOf k h
-sizeOf k (line r ∷ h) = cond (makes k r) (grants h r) (sizeOf k h)
+sizeOf k (line r ∷ h) = cond (madeBy k r) (grants h r) (sizeOf k h)
 
 -- what is left of a size
 abbrev pub left : ℕ → ℕ → ℕ → ℕ → ℕ
@@ -129,15 +129,15 @@ figuresOf k h =
 abbrev pub priceOf : Key → History → ℕ
 priceOf k [] = 0
 priceOf k (endOfDay ∷ h) = priceOf k h
-priceOf k (line r ∷ h) = cond (makes k r || isReprice (r .event) && about k h r) (r .price) (priceOf k h)
+priceOf k (line r ∷ h) = cond (madeBy k r || isReprice (r .event) && about k h r) (r .price) (priceOf k h)
 
 -- ---- the orders of the day
 
 -- the lines that make an order, in order of acceptance
-abbrev pub makers : History → List Record
-makers [] = []
-makers (endOfDay ∷ h) = makers h
-makers (line r ∷ h) = cond (isMaker (r .event)) (makers h ++ (r ∷ [])) (makers h)
+abbrev pub linesThatMake : History → List Record
+linesThatMake [] = []
+linesThatMake (endOfDay ∷ h) = linesThatMake h
+linesThatMake (line r ∷ h) = cond (isMaker (r .event)) (linesThatMake h ++ (r ∷ [])) (linesThatMake h)
 
 abbrev pub oneMore : ℕ → ℕ
 oneMore zero = zero
@@ -159,18 +159,18 @@ orderOf h r =
       side = r .side;
       series = seriesOf r;
       price = priceOf (keyOf r) h;
-      elder = elderOf r (makers h);
+      elder = elderOf r (linesThatMake h);
       figures = figuresOf (keyOf r) h;
     }
 
 abbrev pub ordersOf : History → List Order
-ordersOf h = map (orderOf h) (makers h)
+ordersOf h = map (orderOf h) (linesThatMake h)
 
 -- the line that made it: the latest that makes an order with this key (refusal 7 leaves no second one), or `none` where no line does
-abbrev pub making : Key → History → Record → Record
-making k [] none = none
-making k (endOfDay ∷ h) none = making k h none
-making k (line r ∷ h) none = cond (makes k r) r (making k h none)
+abbrev pub lineThatMade : Key → History → Record → Record
+lineThatMade k [] none = none
+lineThatMade k (endOfDay ∷ h) none = lineThatMade k h none
+lineThatMade k (line r ∷ h) none = cond (madeBy k r) r (lineThatMade k h none)
 
 -- end of day was booked
 abbrev pub isOver : History → Bool

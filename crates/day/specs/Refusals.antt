@@ -10,7 +10,7 @@ use Rattle.layout.specs.Line.{Said, endOfDay, line, read}
 use Rattle.layout.specs.declared.Record.{Record}
 use Rattle.order.specs.Names.{keyOf, elderKeyOf, seriesOf}
 use Rattle.order.specs.declared.Key.{Key}
-use Rattle.day.specs.History.{History, isNew, isExecution, isCancel, isBreak, isReplace, isReprice, isMaker, known, making, makers, isOver, executedOf, brokenOf, openOf}
+use Rattle.day.specs.History.{History, isNew, isExecution, isCancel, isBreak, isReplace, isReprice, isMaker, known, lineThatMade, linesThatMake, isOver, executedOf, brokenOf, openOf}
 
 -- the order that a line speaks of: for U, the elder
 abbrev pub subject : Record → Key
@@ -41,7 +41,7 @@ UnknownKey h (line r) = (isNew (r .event) ≡ false) × (known (subject r) h ≡
 -- "E C X R U: side or series differs from that order's (for U, the elder's)"
 abbrev pub OtherSeries : History → Said → Type 0
 OtherSeries h endOfDay = ⊥
-OtherSeries h (line r) = OfOrder h r (Alike (making (subject r) h r) r → ⊥)
+OtherSeries h (line r) = OfOrder h r (Alike (lineThatMade (subject r) h r) r → ⊥)
 
 -- "E X: n is more than open; U R: open is 0"
 abbrev pub NotOpen : History → Said → Type 0
@@ -60,7 +60,7 @@ NotExecuted h (line r) =
 -- "A or U: the table holds 512", or whatever its limit is
 abbrev pub Full : ℕ → History → Said → Type 0
 Full limit h endOfDay = ⊥
-Full limit h (line r) = (isMaker (r .event) ≡ true) × (limit ≤ length (makers h))
+Full limit h (line r) = (isMaker (r .event) ≡ true) × (limit ≤ length (linesThatMake h))
 
 pub record Rule : Type 1 where
   pub number : ℕ

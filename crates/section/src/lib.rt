@@ -2,7 +2,7 @@
 ghost use mathlib.Core.Path.{_≡_};
 ghost use lib.ListN.{length};
 ghost use lib.Seq.{sets};
-ghost use Rattle.run.specs.Runs.{same as Line·same};
+ghost use Rattle.run.specs.Runs.{same as Runs·same};
 ghost use Rattle.section.specs.Sections.{startOf, recordOf, Inside};
 
 // Where the first record begins, how far on the next one does, and how wide each is. A key that stands in each record is a section too.
@@ -23,7 +23,7 @@ pub fn start(t: &[u8], c: Section, i: usize) -> usize
 pub fn same(t: &[u8], c: Section, i: usize, bytes: &[u8]) -> bool
     requires { ⌜ Inside c (now t) i ⌝ }
     requires { ⌜ length (now bytes) ≡ c .width ⌝ }
-    ensures { λ r. ⌜ r ≡ Line·same (recordOf c (now (t .entry)) i) (now (bytes .entry)) ⌝ }
+    ensures { λ r. ⌜ r ≡ Runs·same (recordOf c (now (t .entry)) i) (now (bytes .entry)) ⌝ }
 {
     run::same_at(t, c.first + c.step * i, bytes)
 }

@@ -3,7 +3,7 @@ use mathlib.Core.Path.{_≡_, _∙_, ap}
 use lib.ListN.{length}
 use borrow.Author.Needs.{needs}
 use denote.Ref.{now}
-use Rattle.run.specs.Runs.{part, same as Line·same}
+use Rattle.run.specs.Runs.{part, same as Runs·same}
 use Rattle.section.specs.Sections.{startOf}
 use Rattle.section.proofs.same.Statement.{statement}
 use Rattle.section.proofs.same.Tie as tie
@@ -21,7 +21,7 @@ returns : tie.Need-returns
 returns c =
     let a = c .before .before .before .before .before .args in
     let wide : length (now (a .bytes)) ≡ a .c .width = search needs in
-    c .same-at .ensures ∙ ap (λ w. Line·same (part (now (a .t)) (startOf (a .c) (a .i)) w) (now (a .bytes))) wide
+    c .same-at .ensures ∙ ap (λ w. Runs·same (part (now (a .t)) (startOf (a .c) (a .i)) w) (now (a .bytes))) wide
 
 pub same-spec : {M : Type 1} → statement M
 same-spec = tie.close (tie.spec mul-same-at add-same-at same-at-requires returns)
