@@ -8,7 +8,7 @@ use lib.Dec.{eqb}
 use Rattle.refusal.specs.Answer.{Answer, value, refused}
 use Rattle.layout.specs.Line.{Said, read}
 use Rattle.layout.proofs.Forms.{no-value}
-use Rattle.day.specs.Demand3.{tableAfter, answerTo, kept, acceptedOf}
+use Rattle.day.specs.Demand3.{tableAfter, answerTo, ifAccepted, acceptedOf}
 use Rattle.day.specs.Machine.{refusalOf, accept, bookRead, book}
 use Rattle.day.specs.Tables.{Table, Booked}
 
@@ -61,7 +61,7 @@ module _ (limit : ℕ) where
   same-table (p ∷ ps) = go (answerTo (book limit) ps p) refl (same-table ps)
     where
       go : (a : Answer (Unit {0})) → answerTo (book limit) ps p ≡ a → after (accepted ps) ≡ after ps
-          → after (kept a p (accepted ps)) ≡ book limit (after ps) p .table
+          → after (ifAccepted a p (accepted ps)) ≡ book limit (after ps) p .table
       go (value u) e ih = ap (λ (t : Table). book limit t p .table) ih
       go (refused n f) e ih = ih ∙ sym (refused-keeps limit (after ps) p n f e)
 
@@ -70,7 +70,7 @@ module _ (limit : ℕ) where
   all-again (p ∷ ps) = go (answerTo (book limit) ps p) refl (all-again ps)
     where
       go : (a : Answer (Unit {0})) → answerTo (book limit) ps p ≡ a → accepted (accepted ps) ≡ accepted ps
-          → accepted (kept a p (accepted ps)) ≡ kept a p (accepted ps)
+          → accepted (ifAccepted a p (accepted ps)) ≡ ifAccepted a p (accepted ps)
       go (value u) e ih =
           let again : answerTo (book limit) (accepted ps) p ≡ value u = ap (λ (t : Table). book limit t p .answer) (same-table ps) ∙ e in
           rw (again, ih)

@@ -25,9 +25,10 @@ joined (value u) (value x) h = x ∷ h
 joined (value u) (refused n f) h = h
 joined (refused n f) said h = h
 
-abbrev pub kept : Answer (Unit {0}) → List ℕ → List (List ℕ) → List (List ℕ)
-kept (value u) p ps = p ∷ ps
-kept (refused n f) p ps = ps
+-- a piece that was accepted joins those before it
+abbrev pub ifAccepted : Answer (Unit {0}) → List ℕ → List (List ℕ) → List (List ℕ)
+ifAccepted (value u) p ps = p ∷ ps
+ifAccepted (refused n f) p ps = ps
 
 module _ (book : Table → List ℕ → Booked) where
   abbrev pub tableAfter : List (List ℕ) → Table
@@ -45,7 +46,7 @@ module _ (book : Table → List ℕ → Booked) where
   -- the accepted ones alone
   abbrev pub acceptedOf : List (List ℕ) → List (List ℕ)
   acceptedOf [] = []
-  acceptedOf (p ∷ ps) = kept (answerTo ps p) p (acceptedOf ps)
+  acceptedOf (p ∷ ps) = ifAccepted (answerTo ps p) p (acceptedOf ps)
 
 -- an order's elder, its elder's elder, and so on
 pub data Ancestor (es : List ℕ) : ℕ → ℕ → Type 0 where
