@@ -1,4 +1,4 @@
--- What a field's answer makes of the reading
+-- What a field's answer, and that of a group of fields, makes of the reading
 pub mod Steps
 -- The 24 fields that keep their rules say the record
 pub mod Whole

@@ -1,6 +1,6 @@
--- Reading one field after another: what a field's answer makes of the reading.
+-- Reading one field after another, and one group of fields after another: what an answer makes of the reading.
 use Prim.Native.Nat.{ℕ, suc, _<_}
-use mathlib.Core.Path.{_≡_, refl, sym, ap, _∙_}
+use mathlib.Core.Path.{_≡_, refl, sym, ap, _∙_, transport}
 use mathlib.Core.Bool.{Bool, true, false}
 use mathlib.Core.List.{List, [], _∷_, _++_}
 use native.Mathlib.Omega.{arith}
@@ -13,11 +13,14 @@ use Rattle.field.specs.declared.Bytes.{Bytes}
 use Rattle.field.specs.declared.Bytes.the-variants.{Lawful, Unlawful}
 use Rattle.field.specs.declared.Number.{Number}
 use Rattle.field.specs.declared.Number.the-variants.{Value as Number·Value, Bad}
+use Rattle.refusal.specs.declared.Refusal.{Refusal}
 use Rattle.refusal.specs.declared.Refusal.the-variants.{Field}
 use Rattle.layout.specs.Layout.{Row, noRow, breaks, readRows, onGot}
 use Rattle.layout.specs.Line.{rowsOf}
 use Rattle.layout.specs.Rule.{code, kept, Kind, isKind, Value, num, run, Got, got, broken, reads, gotNumber, gotRun}
-use Rattle.line.specs.Groups.{valuesOf, readingOf, readingFrom, refusedReading}
+use Rattle.line.specs.Groups.{Says, valuesOf, readingBy, readingOf, readingFrom, refusedReading}
+use Rattle.line.specs.declared.Group.{Group}
+use Rattle.line.specs.declared.Group.the-variants.{Lawful as Group·Lawful, Refused as Group·Refused}
 use Rattle.layout.specs.declared.Numbers.{Numbers}
 use Rattle.line.specs.declared.Reading.{Reading}
 
@@ -81,46 +84,28 @@ value-good n x v e l = ap gotNumber (sym e ∙ l)
 pub value-bad : (n x : Number) → x ≡ n → x ≡ Bad → gotNumber n ≡ broken
 value-bad n x e l = ap gotNumber (sym e ∙ l)
 
--- ---- the numbers of a line as they are read
+-- ---- the numbers of a group as they are read
 
-abbrev pub withTimestamp : ℕ → Numbers
-withTimestamp t = record { timestamp = t; contracts = 0; date = 0; year = 0; strike = 0; price = 0; «match_id» = 0; «cross_id» = 0 }
+abbrev pub timestampSaid : ℕ → Numbers
+timestampSaid t = record { timestamp = t; contracts = 0; date = 0; year = 0; strike = 0; price = 0; «match_id» = 0; «cross_id» = 0 }
 
-abbrev pub withContracts : Numbers → ℕ → Numbers
-withContracts n v =
-    record {
-      timestamp = n .timestamp;
-      contracts = v;
-      date = n .date;
-      year = n .year;
-      strike = n .strike;
-      price = n .price;
-      «match_id» = n .«match_id»;
-      «cross_id» = n .«cross_id»;
-    }
+abbrev pub contractsSaid : ℕ → Numbers
+contractsSaid v = record { timestamp = 0; contracts = v; date = 0; year = 0; strike = 0; price = 0; «match_id» = 0; «cross_id» = 0 }
 
-abbrev pub withSeries : Numbers → ℕ → ℕ → ℕ → ℕ → Numbers
-withSeries n d y k p =
-    record {
-      timestamp = n .timestamp;
-      contracts = n .contracts;
-      date = d;
-      year = y;
-      strike = k;
-      price = p;
-      «match_id» = n .«match_id»;
-      «cross_id» = n .«cross_id»;
-    }
+abbrev pub seriesSaid : ℕ → ℕ → ℕ → ℕ → Numbers
+seriesSaid d y k p = record { timestamp = 0; contracts = 0; date = d; year = y; strike = k; price = p; «match_id» = 0; «cross_id» = 0 }
 
-abbrev pub withIds : Numbers → ℕ → ℕ → Numbers
-withIds n m x =
-    record {
-      timestamp = n .timestamp;
-      contracts = n .contracts;
-      date = n .date;
-      year = n .year;
-      strike = n .strike;
-      price = n .price;
-      «match_id» = m;
-      «cross_id» = x;
-    }
+abbrev pub idsSaid : ℕ → ℕ → Numbers
+idsSaid m x = record { timestamp = 0; contracts = 0; date = 0; year = 0; strike = 0; price = 0; «match_id» = m; «cross_id» = x }
+
+-- ---- one group after another
+
+-- a group whose fields keep their rules leaves the answer to those behind it
+pub past-group : (k m : ℕ) (into : Numbers → Numbers → Numbers) (s : List ℕ) (g : Group) (x n : Numbers) (r : Reading) → Says k m into s g → g ≡ Group·Lawful x
+    → r ≡ readingFrom m (into n x) s → r ≡ readingFrom k n s
+past-group k m into s g x n r h e q = q ∙ transport (λ i. Says k m into s (e i)) h n
+
+-- the first that holds a broken one is the answer
+pub stops-group : (k m : ℕ) (into : Numbers → Numbers → Numbers) (s : List ℕ) (g : Group) (y : Refusal) (n : Numbers) → Says k m into s g → g ≡ Group·Refused y
+    → readingBy s g ≡ readingFrom k n s
+stops-group k m into s g y n h e = ap (readingBy s) e ∙ transport (λ i. Says k m into s (e i)) h n

@@ -1,5 +1,6 @@
--- What the functions that read a line a group of fields at a time leave to the next. What the entries promise is in specs/Promises.antt.
+-- What a group of fields, read by itself, makes of the reading of a line. What the entries promise is in specs/Promises.antt.
 use Prim.Native.Nat.{ℕ}
+use mathlib.Core.Path.{_≡_}
 use mathlib.Core.List.{List, [], _∷_}
 use lib.ListN.{getD, take, drop}
 use Rattle.run.specs.Runs.{part}
@@ -7,13 +8,15 @@ use Rattle.refusal.specs.declared.Refusal.{Refusal}
 use Rattle.refusal.specs.declared.Refusal.the-variants.{Field}
 use Rattle.layout.specs.Layout.{Fields, breaks, say, isTrade, readRows}
 use Rattle.layout.specs.Line.{rowsOf}
-use Rattle.layout.specs.Records.{recordOf}
+use Rattle.layout.specs.Records.{recordOf, recordFrom}
 use Rattle.layout.specs.Rule.{Value, num, run}
 use Rattle.layout.specs.declared.Numbers.{Numbers}
 use Rattle.rule.specs.ByType.{idValue}
 use Rattle.line.specs.Promises.{blankRecord}
-use Rattle.line.specs.declared.Reading.{Reading}
+use Rattle.line.specs.declared.Group.{Group}
+use Rattle.line.specs.declared.Group.the-variants.{Lawful, Refused as Group·Refused}
 use Rattle.line.specs.declared.Outcome.the-variants.{Line, Refused}
+use Rattle.line.specs.declared.Reading.{Reading}
 
 -- the 24 values of a lawful line, from its numbers and its bytes
 abbrev pub valuesOf : Numbers → List ℕ → List Value
@@ -58,3 +61,70 @@ noNumbers = record { timestamp = 0; contracts = 0; date = 0; year = 0; strike = 
 -- what is read from field k + 1 on, behind k fields that said their values
 abbrev pub readingFrom : ℕ → Numbers → List ℕ → Reading
 readingFrom k n s = readingOf (readRows (drop k (rowsOf s)) (take k (valuesOf n s)) s)
+
+-- ---- the numbers n of a line, with those that a group x of its fields says
+
+abbrev pub withTimestamp : Numbers → Numbers → Numbers
+withTimestamp n x =
+    record {
+      timestamp = x .timestamp;
+      contracts = n .contracts;
+      date = n .date;
+      year = n .year;
+      strike = n .strike;
+      price = n .price;
+      «match_id» = n .«match_id»;
+      «cross_id» = n .«cross_id»;
+    }
+
+abbrev pub withContracts : Numbers → Numbers → Numbers
+withContracts n x =
+    record {
+      timestamp = n .timestamp;
+      contracts = x .contracts;
+      date = n .date;
+      year = n .year;
+      strike = n .strike;
+      price = n .price;
+      «match_id» = n .«match_id»;
+      «cross_id» = n .«cross_id»;
+    }
+
+abbrev pub withSeries : Numbers → Numbers → Numbers
+withSeries n x =
+    record {
+      timestamp = n .timestamp;
+      contracts = n .contracts;
+      date = x .date;
+      year = x .year;
+      strike = x .strike;
+      price = x .price;
+      «match_id» = n .«match_id»;
+      «cross_id» = n .«cross_id»;
+    }
+
+abbrev pub withIds : Numbers → Numbers → Numbers
+withIds n x =
+    record {
+      timestamp = n .timestamp;
+      contracts = n .contracts;
+      date = n .date;
+      year = n .year;
+      strike = n .strike;
+      price = n .price;
+      «match_id» = x .«match_id»;
+      «cross_id» = x .«cross_id»;
+    }
+
+abbrev pub withNone : Numbers → Numbers → Numbers
+withNone n x = n
+
+-- what fields k + 1 to m leave to those behind them, whatever the fields before them said
+abbrev pub Says : ℕ → ℕ → (Numbers → Numbers → Numbers) → List ℕ → Group → Type 0
+Says k m into s (Lawful x) = (n : Numbers) → readingFrom m (into n x) s ≡ readingFrom k n s
+Says k m into s (Group·Refused y) = (n : Numbers) → refusedReading y ≡ readingFrom k n s
+
+-- the reading that all groups together make
+abbrev pub readingBy : List ℕ → Group → Reading
+readingBy s (Lawful n) = record { outcome = Line; line = recordFrom n s }
+readingBy s (Group·Refused x) = refusedReading x

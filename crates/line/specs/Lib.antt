@@ -1,4 +1,4 @@
 -- Each entry's answer in the paper's numbers and values
 pub mod Promises
--- What each lot of fields read leaves to the next
+-- What a group of fields, read by itself, makes of the reading
 pub mod Groups

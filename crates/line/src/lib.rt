@@ -5,6 +5,7 @@ mod times;
 
 pub use fields::read;
 use layout::Clock;
+use layout::Numbers;
 use layout::Record;
 use layout::Strike;
 use refusal::Refusal;
@@ -22,6 +23,12 @@ pub enum Outcome {
 pub struct Reading {
     pub outcome: Outcome,
     pub line: Record,
+}
+
+// What a group of fields says: its own numbers, the others 0; or the refusal for the first of its fields that breaks its rule.
+pub(crate) enum Group {
+    Lawful(Numbers),
+    Refused(Refusal),
 }
 
 // A strike in hundred-thousandths of a dollar.

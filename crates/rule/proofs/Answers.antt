@@ -15,7 +15,6 @@ use Rattle.field.specs.declared.Bytes.the-variants.{Lawful, Unlawful}
 use Rattle.field.specs.declared.Number.{Number}
 use Rattle.field.specs.declared.Number.the-variants.{Value as Number·Value, Bad}
 use Rattle.layout.specs.Layout.{leastStrike, idNumber}
-use Rattle.layout.specs.Records.{numOf}
 use Rattle.layout.specs.Rule.{Rule, code, kept, text, blank, Kind, isKind, run, Got, got, broken, reads, gotNumber, gotRun}
 use Rattle.rule.specs.ByType.{keptGot, keptOn, idGot, idOn, idValue}
 
@@ -106,15 +105,6 @@ id-bad on b x e l = by-got (reads (cond on idNumber (kept blank)) b) (sym e ∙ 
     by-got : (g : Got) → idGot g ≡ Bad → g ≡ broken
     by-got (got v) q = let z : _≡_ {A = ℕ} 0 1 = cc in absurd (omega arith)
     by-got broken q = refl
-
--- a missing id is 0
-pub id-number : (on : Bool) (b : List ℕ) (x : Number) (v : ℕ) → x ≡ idOn on b → x ≡ Number·Value v → v ≡ numOf (idValue on v b)
-id-number true b x v e l = refl
-id-number false b x v e l = by-test (isBlank b) (sym e ∙ l)
-  where
-    by-test : (a : Bool) → idGot (gotRun a b) ≡ Number·Value v → v ≡ 0
-    by-test true q = cc
-    by-test false q = let z : _≡_ {A = ℕ} 0 1 = cc in absurd (omega arith)
 
 -- the most that ten bytes of a price hold
 pub price-most : (v : ℕ) → leb v 9999999999 ≡ ltb v (10 ^ 10)

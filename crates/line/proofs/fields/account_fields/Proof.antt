@@ -2,7 +2,7 @@
 use Prim.Native.Nat.{ℕ}
 use mathlib.Core.Bool.{Bool}
 use mathlib.Core.List.{List}
-use mathlib.Core.Path.{_∙_, ap, _≡_}
+use mathlib.Core.Path.{_∙_, ap, _≡_, refl}
 use borrow.Author.Needs.{needs}
 use denote.Ref.{now}
 use lib.Dec.{lit<, eqb}
@@ -21,73 +21,55 @@ use Rattle.line.proofs.fields.account_fields.Tie as tie
 abbrev piece-7 : tie.After-enum-told → List ℕ
 piece-7 c = now (c .before .before .before .before .before .args .s)
 
-abbrev given-7 : tie.After-enum-told → Numbers
-given-7 c = c .before .before .before .before .before .args .n
-
-past-7 : (c : tie.After-enum-told) (x : Reading) → x ≡ readingFrom 7 (given-7 c) (piece-7 c) → x ≡ readingFrom 6 (given-7 c) (piece-7 c)
-past-7 c x e =
+past-7 : (c : tie.After-enum-told) (n : Numbers) (x : Reading) → x ≡ readingFrom 7 n (piece-7 c) → x ≡ readingFrom 6 n (piece-7 c)
+past-7 c n x e =
     let s = piece-7 c in
-    past 6 (given-7 c) s x (lit< tt) (kind-good textOrBlank (part s 16 4) _ (c .before .before .text-or-blank .ensures) (c .enum-told .given .1)) e
+    past 6 n s x (lit< tt) (kind-good textOrBlank (part s 16 4) _ (c .before .before .text-or-blank .ensures) (c .enum-told .given .1)) e
 
 abbrev piece-8 : tie.After-enum-told3 → List ℕ
 piece-8 c = piece-7 (c .before .before .before .before)
 
-abbrev given-8 : tie.After-enum-told3 → Numbers
-given-8 c = given-7 (c .before .before .before .before)
-
-past-8 : (c : tie.After-enum-told3) (x : Reading) → x ≡ readingFrom 8 (given-8 c) (piece-8 c) → x ≡ readingFrom 6 (given-8 c) (piece-8 c)
-past-8 c x e =
+past-8 : (c : tie.After-enum-told3) (n : Numbers) (x : Reading) → x ≡ readingFrom 8 n (piece-8 c) → x ≡ readingFrom 6 n (piece-8 c)
+past-8 c n x e =
     let s = piece-8 c in
-    past-7 (c .before .before .before .before) x
-    (past 7 (given-8 c) s x (lit< tt) (kind-good digitsOrBlank (part s 20 5) _ (c .before .before .digits-or-blank .ensures) (c .enum-told3 .given .1)) e)
+    past-7 (c .before .before .before .before) n x
+    (past 7 n s x (lit< tt) (kind-good digitsOrBlank (part s 20 5) _ (c .before .before .digits-or-blank .ensures) (c .enum-told3 .given .1)) e)
 
 abbrev piece-9 : tie.After-enum-told5 → List ℕ
 piece-9 c = piece-8 (c .before .before .before .before)
 
-abbrev given-9 : tie.After-enum-told5 → Numbers
-given-9 c = given-8 (c .before .before .before .before)
-
-past-9 : (c : tie.After-enum-told5) (x : Reading) → x ≡ readingFrom 9 (given-9 c) (piece-9 c) → x ≡ readingFrom 6 (given-9 c) (piece-9 c)
-past-9 c x e =
+past-9 : (c : tie.After-enum-told5) (n : Numbers) (x : Reading) → x ≡ readingFrom 9 n (piece-9 c) → x ≡ readingFrom 6 n (piece-9 c)
+past-9 c n x e =
     let s = piece-9 c in
-    past-8 (c .before .before .before .before) x
-    (past 8 (given-9 c) s x (lit< tt) (kind-good digitsOrBlank (part s 25 5) _ (c .before .before .digits-or-blank2 .ensures) (c .enum-told5 .given .1)) e)
+    past-8 (c .before .before .before .before) n x
+    (past 8 n s x (lit< tt) (kind-good digitsOrBlank (part s 25 5) _ (c .before .before .digits-or-blank2 .ensures) (c .enum-told5 .given .1)) e)
 
 abbrev piece-10 : tie.After-enum-told7 → List ℕ
 piece-10 c = piece-9 (c .before .before .before .before)
 
-abbrev given-10 : tie.After-enum-told7 → Numbers
-given-10 c = given-9 (c .before .before .before .before)
-
-past-10 : (c : tie.After-enum-told7) (x : Reading) → x ≡ readingFrom 10 (given-10 c) (piece-10 c) → x ≡ readingFrom 6 (given-10 c) (piece-10 c)
-past-10 c x e =
+past-10 : (c : tie.After-enum-told7) (n : Numbers) (x : Reading) → x ≡ readingFrom 10 n (piece-10 c) → x ≡ readingFrom 6 n (piece-10 c)
+past-10 c n x e =
     let s = piece-10 c in
-    past-9 (c .before .before .before .before) x
-    (past 9 (given-10 c) s x (lit< tt) (kind-good text (part s 30 6) _ (c .before .before .text .ensures) (c .enum-told7 .given .1)) e)
+    past-9 (c .before .before .before .before) n x
+    (past 9 n s x (lit< tt) (kind-good text (part s 30 6) _ (c .before .before .text .ensures) (c .enum-told7 .given .1)) e)
 
 abbrev piece-11 : tie.After-enum-told9 → List ℕ
 piece-11 c = piece-10 (c .before .before .before .before)
 
-abbrev given-11 : tie.After-enum-told9 → Numbers
-given-11 c = given-10 (c .before .before .before .before)
-
-past-11 : (c : tie.After-enum-told9) (x : Reading) → x ≡ readingFrom 11 (given-11 c) (piece-11 c) → x ≡ readingFrom 6 (given-11 c) (piece-11 c)
-past-11 c x e =
+past-11 : (c : tie.After-enum-told9) (n : Numbers) (x : Reading) → x ≡ readingFrom 11 n (piece-11 c) → x ≡ readingFrom 6 n (piece-11 c)
+past-11 c n x e =
     let s = piece-11 c in
-    past-10 (c .before .before .before .before) x
-    (past 10 (given-11 c) s x (lit< tt) (kind-good text (part s 36 20) _ (c .before .before .text2 .ensures) (c .enum-told9 .given .1)) e)
+    past-10 (c .before .before .before .before) n x
+    (past 10 n s x (lit< tt) (kind-good text (part s 36 20) _ (c .before .before .text2 .ensures) (c .enum-told9 .given .1)) e)
 
 abbrev piece-12 : tie.After-enum-told11 → List ℕ
 piece-12 c = piece-11 (c .before .before .before .before .before .before)
 
-abbrev given-12 : tie.After-enum-told11 → Numbers
-given-12 c = given-11 (c .before .before .before .before .before .before)
-
-past-12 : (c : tie.After-enum-told11) (x : Reading) → x ≡ readingFrom 12 (given-12 c) (piece-12 c) → x ≡ readingFrom 6 (given-12 c) (piece-12 c)
-past-12 c x e =
+past-12 : (c : tie.After-enum-told11) (n : Numbers) (x : Reading) → x ≡ readingFrom 12 n (piece-12 c) → x ≡ readingFrom 6 n (piece-12 c)
+past-12 c n x e =
     let s = piece-12 c in
-    past-11 (c .before .before .before .before .before .before) x
-    (past 11 (given-12 c) s x (lit< tt) (kind-on-good (eqb (getD s 8 0) 85) text (part s 56 20) _ (c .before .before .replaced .ensures ∙ ap (λ (t : Bool). keptOn t (kept text) (part s 56 20)) (c .before .before .before .is-replace .ensures)) (c .enum-told11 .given .1)) e)
+    past-11 (c .before .before .before .before .before .before) n x
+    (past 11 n s x (lit< tt) (kind-on-good (eqb (getD s 8 0) 85) text (part s 56 20) _ (c .before .before .replaced .ensures ∙ ap (λ (t : Bool). keptOn t (kept text) (part s 56 20)) (c .before .before .before .is-replace .ensures)) (c .enum-told11 .given .1)) e)
 
 sub-text-or-blank : tie.Need-sub-text-or-blank
 sub-text-or-blank c = search needs
@@ -107,14 +89,10 @@ enum-told c = search needs
 enum-told-2 : tie.Need-enum-told-2
 enum-told-2 c = search needs
 
-refused-requires : tie.Need-refused-requires
-refused-requires c κs = search needs
-
 returns : tie.Need-returns
-returns c =
-    let s = now (c .before .before .before .before .before .before .args .s) in
-    let n = c .before .before .before .before .before .before .args .n in
-    stops 6 n s _ (lit< tt) (kind-bad textOrBlank (part s 16 4) _ (c .before .before .before .text-or-blank .ensures) (c .before .enum-told2 .given .1)) (c .refused .ensures)
+returns c n =
+    let s = now (c .before .before .before .before .before .args .s) in
+    stops 6 n s _ (lit< tt) (kind-bad textOrBlank (part s 16 4) _ (c .before .before .text-or-blank .ensures) (c .enum-told2 .given .1)) refl
 
 sub-digits-or-blank : tie.Need-sub-digits-or-blank
 sub-digits-or-blank c = search needs
@@ -134,14 +112,10 @@ enum-told-3 c = search needs
 enum-told-4 : tie.Need-enum-told-4
 enum-told-4 c = search needs
 
-refused-requires-2 : tie.Need-refused-requires-2
-refused-requires-2 c κs = search needs
-
 returns-2 : tie.Need-returns-2
-returns-2 c =
-    let s = piece-7 (c .before .before .before .before .before) in
-    let n = given-7 (c .before .before .before .before .before) in
-    past-7 (c .before .before .before .before .before) _ (stops 7 n s _ (lit< tt) (kind-bad digitsOrBlank (part s 20 5) _ (c .before .before .before .digits-or-blank .ensures) (c .before .enum-told4 .given .1)) (c .refused2 .ensures))
+returns-2 c n =
+    let s = piece-7 (c .before .before .before .before) in
+    past-7 (c .before .before .before .before) n _ (stops 7 n s _ (lit< tt) (kind-bad digitsOrBlank (part s 20 5) _ (c .before .before .digits-or-blank .ensures) (c .enum-told4 .given .1)) refl)
 
 sub-digits-or-blank-2 : tie.Need-sub-digits-or-blank-2
 sub-digits-or-blank-2 c = search needs
@@ -161,14 +135,10 @@ enum-told-5 c = search needs
 enum-told-6 : tie.Need-enum-told-6
 enum-told-6 c = search needs
 
-refused-requires-3 : tie.Need-refused-requires-3
-refused-requires-3 c κs = search needs
-
 returns-3 : tie.Need-returns-3
-returns-3 c =
-    let s = piece-8 (c .before .before .before .before .before) in
-    let n = given-8 (c .before .before .before .before .before) in
-    past-8 (c .before .before .before .before .before) _ (stops 8 n s _ (lit< tt) (kind-bad digitsOrBlank (part s 25 5) _ (c .before .before .before .digits-or-blank2 .ensures) (c .before .enum-told6 .given .1)) (c .refused3 .ensures))
+returns-3 c n =
+    let s = piece-8 (c .before .before .before .before) in
+    past-8 (c .before .before .before .before) n _ (stops 8 n s _ (lit< tt) (kind-bad digitsOrBlank (part s 25 5) _ (c .before .before .digits-or-blank2 .ensures) (c .enum-told6 .given .1)) refl)
 
 sub-text : tie.Need-sub-text
 sub-text c = search needs
@@ -188,14 +158,10 @@ enum-told-7 c = search needs
 enum-told-8 : tie.Need-enum-told-8
 enum-told-8 c = search needs
 
-refused-requires-4 : tie.Need-refused-requires-4
-refused-requires-4 c κs = search needs
-
 returns-4 : tie.Need-returns-4
-returns-4 c =
-    let s = piece-9 (c .before .before .before .before .before) in
-    let n = given-9 (c .before .before .before .before .before) in
-    past-9 (c .before .before .before .before .before) _ (stops 9 n s _ (lit< tt) (kind-bad text (part s 30 6) _ (c .before .before .before .text .ensures) (c .before .enum-told8 .given .1)) (c .refused4 .ensures))
+returns-4 c n =
+    let s = piece-9 (c .before .before .before .before) in
+    past-9 (c .before .before .before .before) n _ (stops 9 n s _ (lit< tt) (kind-bad text (part s 30 6) _ (c .before .before .text .ensures) (c .enum-told8 .given .1)) refl)
 
 sub-text-2 : tie.Need-sub-text-2
 sub-text-2 c = search needs
@@ -215,14 +181,10 @@ enum-told-9 c = search needs
 enum-told-10 : tie.Need-enum-told-10
 enum-told-10 c = search needs
 
-refused-requires-5 : tie.Need-refused-requires-5
-refused-requires-5 c κs = search needs
-
 returns-5 : tie.Need-returns-5
-returns-5 c =
-    let s = piece-10 (c .before .before .before .before .before) in
-    let n = given-10 (c .before .before .before .before .before) in
-    past-10 (c .before .before .before .before .before) _ (stops 10 n s _ (lit< tt) (kind-bad text (part s 36 20) _ (c .before .before .before .text2 .ensures) (c .before .enum-told10 .given .1)) (c .refused5 .ensures))
+returns-5 c n =
+    let s = piece-10 (c .before .before .before .before) in
+    past-10 (c .before .before .before .before) n _ (stops 10 n s _ (lit< tt) (kind-bad text (part s 36 20) _ (c .before .before .text2 .ensures) (c .enum-told10 .given .1)) refl)
 
 sub-replaced : tie.Need-sub-replaced
 sub-replaced c = search needs
@@ -248,20 +210,16 @@ enum-told-11 c = search needs
 enum-told-12 : tie.Need-enum-told-12
 enum-told-12 c = search needs
 
-refused-requires-6 : tie.Need-refused-requires-6
-refused-requires-6 c κs = search needs
-
 returns-6 : tie.Need-returns-6
-returns-6 c =
-    let s = piece-11 (c .before .before .before .before .before .before .before) in
-    let n = given-11 (c .before .before .before .before .before .before .before) in
-    past-11 (c .before .before .before .before .before .before .before) _ (stops 11 n s _ (lit< tt) (on-bad (eqb (getD s 8 0) 85) (kept text) (part s 56 20) _ (c .before .before .before .replaced .ensures ∙ ap (λ (t : Bool). keptOn t (kept text) (part s 56 20)) (c .before .before .before .before .is-replace .ensures)) (c .before .enum-told12 .given .1)) (c .refused6 .ensures))
+returns-6 c n =
+    let s = piece-11 (c .before .before .before .before .before .before) in
+    past-11 (c .before .before .before .before .before .before) n _ (stops 11 n s _ (lit< tt) (on-bad (eqb (getD s 8 0) 85) (kept text) (part s 56 20) _ (c .before .before .replaced .ensures ∙ ap (λ (t : Bool). keptOn t (kept text) (part s 56 20)) (c .before .before .before .is-replace .ensures)) (c .enum-told12 .given .1)) refl)
 
-order-fields-requires : tie.Need-order-fields-requires
-order-fields-requires c κs = search needs
+no-numbers-requires : tie.Need-no-numbers-requires
+no-numbers-requires c κs = search needs
 
 returns-7 : tie.Need-returns-7
-returns-7 c = past-12 (c .before) _ (c .order-fields .ensures)
+returns-7 c n = past-12 (c .before) n _ refl
 
 pub account-fields-spec : {M : Type 1} → statement M
 account-fields-spec =
@@ -273,7 +231,6 @@ account-fields-spec =
     text-or-blank-requires
     enum-told
     enum-told-2
-    refused-requires
     returns
     sub-digits-or-blank
     part-digits-or-blank-start
@@ -281,7 +238,6 @@ account-fields-spec =
     digits-or-blank-requires
     enum-told-3
     enum-told-4
-    refused-requires-2
     returns-2
     sub-digits-or-blank-2
     part-digits-or-blank-start-2
@@ -289,7 +245,6 @@ account-fields-spec =
     digits-or-blank-requires-2
     enum-told-5
     enum-told-6
-    refused-requires-3
     returns-3
     sub-text
     part-text-start
@@ -297,7 +252,6 @@ account-fields-spec =
     text-requires
     enum-told-7
     enum-told-8
-    refused-requires-4
     returns-4
     sub-text-2
     part-text-start-2
@@ -305,7 +259,6 @@ account-fields-spec =
     text-requires-2
     enum-told-9
     enum-told-10
-    refused-requires-5
     returns-5
     sub-replaced
     part-replaced-start
@@ -315,7 +268,6 @@ account-fields-spec =
     replaced-requires
     enum-told-11
     enum-told-12
-    refused-requires-6
     returns-6
-    order-fields-requires
+    no-numbers-requires
     returns-7)

@@ -1,7 +1,7 @@
 -- `line::fields::event_fields` meets its contract.
 use Prim.Native.Nat.{ℕ}
 use mathlib.Core.Bool.{Bool}
-use mathlib.Core.Path.{_∙_, ap, _≡_}
+use mathlib.Core.Path.{_∙_, ap, _≡_, refl}
 use mathlib.Core.List.{List}
 use borrow.Author.Needs.{needs}
 use denote.Ref.{now}
@@ -10,13 +10,13 @@ use lib.ListN.{getD}
 use Rattle.run.specs.Runs.{part}
 use Rattle.layout.specs.Layout.{isTrade}
 use Rattle.rule.specs.ByType.{keptOn}
-use Rattle.line.specs.Groups.{readingFrom, noNumbers}
+use Rattle.line.specs.Groups.{readingFrom, withTimestamp}
 use Rattle.layout.specs.Rule.{number, code, text}
 use Rattle.layout.specs.Layout.{types, capacities, positions, liquidities}
 use Rattle.field.specs.Number.{number as readNumber}
 use Rattle.layout.specs.declared.Numbers.{Numbers}
 use Rattle.line.specs.declared.Reading.{Reading}
-use Rattle.line.proofs.Steps.{withTimestamp, past, stops, kind-good, kind-bad, code-good, code-bad, value-good, value-bad}
+use Rattle.line.proofs.Steps.{timestampSaid, past, stops, kind-good, kind-bad, code-good, code-bad, value-good, value-bad}
 use Rattle.rule.proofs.Answers.{code-on-good, on-bad}
 use Rattle.line.proofs.fields.event_fields.Statement.{statement}
 use Rattle.line.proofs.fields.event_fields.Tie as tie
@@ -24,73 +24,73 @@ use Rattle.line.proofs.fields.event_fields.Tie as tie
 abbrev piece-1 : tie.After-known-told → List ℕ
 piece-1 c = now (c .before .before .before .before .before .before .args .s)
 
-abbrev numbers-1 : tie.After-known-told → Numbers
-numbers-1 c = withTimestamp (c .before .timestamp .given .0 .0)
+abbrev numbers-1 : tie.After-known-told → Numbers → Numbers
+numbers-1 c n = withTimestamp n (timestampSaid (c .before .timestamp .given .0 .0))
 
-past-1 : (c : tie.After-known-told) (x : Reading) → x ≡ readingFrom 1 (numbers-1 c) (piece-1 c) → x ≡ readingFrom 0 noNumbers (piece-1 c)
-past-1 c x e =
+past-1 : (c : tie.After-known-told) (n : Numbers) (x : Reading) → x ≡ readingFrom 1 (numbers-1 c n) (piece-1 c) → x ≡ readingFrom 0 n (piece-1 c)
+past-1 c n x e =
     let s = piece-1 c in
-    past 0 (numbers-1 c) s x (lit< tt) (value-good (readNumber 0 86399999 (part s 0 8)) _ _ (c .before .before .before .number .ensures) (c .before .timestamp .given .1)) e
+    past 0 (numbers-1 c n) s x (lit< tt) (value-good (readNumber 0 86399999 (part s 0 8)) _ _ (c .before .before .before .number .ensures) (c .before .timestamp .given .1)) e
 
 abbrev piece-2 : tie.After-enum-told2 → List ℕ
 piece-2 c = piece-1 (c .before .before .before .before .before)
 
-abbrev numbers-2 : tie.After-enum-told2 → Numbers
-numbers-2 c = withTimestamp (c .before .before .before .before .before .before .timestamp .given .0 .0)
+abbrev numbers-2 : tie.After-enum-told2 → Numbers → Numbers
+numbers-2 c n = withTimestamp n (timestampSaid (c .before .before .before .before .before .before .timestamp .given .0 .0))
 
-past-2 : (c : tie.After-enum-told2) (x : Reading) → x ≡ readingFrom 2 (numbers-2 c) (piece-2 c) → x ≡ readingFrom 0 noNumbers (piece-2 c)
-past-2 c x e =
+past-2 : (c : tie.After-enum-told2) (n : Numbers) (x : Reading) → x ≡ readingFrom 2 (numbers-2 c n) (piece-2 c) → x ≡ readingFrom 0 n (piece-2 c)
+past-2 c n x e =
     let s = piece-2 c in
-    past-1 (c .before .before .before .before .before) x
-    (past 1 (numbers-2 c) s x (lit< tt) (code-good types (part s 8 1) _ (c .before .before .code .ensures) (c .enum-told2 .given .1)) e)
+    past-1 (c .before .before .before .before .before) n x
+    (past 1 (numbers-2 c n) s x (lit< tt) (code-good types (part s 8 1) _ (c .before .before .code .ensures) (c .enum-told2 .given .1)) e)
 
 abbrev piece-3 : tie.After-enum-told4 → List ℕ
 piece-3 c = piece-2 (c .before .before .before .before)
 
-abbrev numbers-3 : tie.After-enum-told4 → Numbers
-numbers-3 c = withTimestamp (c .before .before .before .before .before .before .before .before .before .before .timestamp .given .0 .0)
+abbrev numbers-3 : tie.After-enum-told4 → Numbers → Numbers
+numbers-3 c n = withTimestamp n (timestampSaid (c .before .before .before .before .before .before .before .before .before .before .timestamp .given .0 .0))
 
-past-3 : (c : tie.After-enum-told4) (x : Reading) → x ≡ readingFrom 3 (numbers-3 c) (piece-3 c) → x ≡ readingFrom 0 noNumbers (piece-3 c)
-past-3 c x e =
+past-3 : (c : tie.After-enum-told4) (n : Numbers) (x : Reading) → x ≡ readingFrom 3 (numbers-3 c n) (piece-3 c) → x ≡ readingFrom 0 n (piece-3 c)
+past-3 c n x e =
     let s = piece-3 c in
-    past-2 (c .before .before .before .before) x
-    (past 2 (numbers-3 c) s x (lit< tt) (kind-good text (part s 9 4) _ (c .before .before .text .ensures) (c .enum-told4 .given .1)) e)
+    past-2 (c .before .before .before .before) n x
+    (past 2 (numbers-3 c n) s x (lit< tt) (kind-good text (part s 9 4) _ (c .before .before .text .ensures) (c .enum-told4 .given .1)) e)
 
 abbrev piece-4 : tie.After-enum-told6 → List ℕ
 piece-4 c = piece-3 (c .before .before .before .before .before)
 
-abbrev numbers-4 : tie.After-enum-told6 → Numbers
-numbers-4 c = withTimestamp (c .before .before .before .before .before .before .before .before .before .before .before .before .before .before .before .timestamp .given .0 .0)
+abbrev numbers-4 : tie.After-enum-told6 → Numbers → Numbers
+numbers-4 c n = withTimestamp n (timestampSaid (c .before .before .before .before .before .before .before .before .before .before .before .before .before .before .before .timestamp .given .0 .0))
 
-past-4 : (c : tie.After-enum-told6) (x : Reading) → x ≡ readingFrom 4 (numbers-4 c) (piece-4 c) → x ≡ readingFrom 0 noNumbers (piece-4 c)
-past-4 c x e =
+past-4 : (c : tie.After-enum-told6) (n : Numbers) (x : Reading) → x ≡ readingFrom 4 (numbers-4 c n) (piece-4 c) → x ≡ readingFrom 0 n (piece-4 c)
+past-4 c n x e =
     let s = piece-4 c in
-    past-3 (c .before .before .before .before .before) x
-    (past 3 (numbers-4 c) s x (lit< tt) (code-good capacities (part s 13 1) _ (c .before .before .code2 .ensures) (c .enum-told6 .given .1)) e)
+    past-3 (c .before .before .before .before .before) n x
+    (past 3 (numbers-4 c n) s x (lit< tt) (code-good capacities (part s 13 1) _ (c .before .before .code2 .ensures) (c .enum-told6 .given .1)) e)
 
 abbrev piece-5 : tie.After-enum-told8 → List ℕ
 piece-5 c = piece-4 (c .before .before .before .before .before)
 
-abbrev numbers-5 : tie.After-enum-told8 → Numbers
-numbers-5 c = withTimestamp (c .before .before .before .before .before .before .before .before .before .before .before .before .before .before .before .before .before .before .before .before .timestamp .given .0 .0)
+abbrev numbers-5 : tie.After-enum-told8 → Numbers → Numbers
+numbers-5 c n = withTimestamp n (timestampSaid (c .before .before .before .before .before .before .before .before .before .before .before .before .before .before .before .before .before .before .before .before .timestamp .given .0 .0))
 
-past-5 : (c : tie.After-enum-told8) (x : Reading) → x ≡ readingFrom 5 (numbers-5 c) (piece-5 c) → x ≡ readingFrom 0 noNumbers (piece-5 c)
-past-5 c x e =
+past-5 : (c : tie.After-enum-told8) (n : Numbers) (x : Reading) → x ≡ readingFrom 5 (numbers-5 c n) (piece-5 c) → x ≡ readingFrom 0 n (piece-5 c)
+past-5 c n x e =
     let s = piece-5 c in
-    past-4 (c .before .before .before .before .before) x
-    (past 4 (numbers-5 c) s x (lit< tt) (code-good positions (part s 14 1) _ (c .before .before .code3 .ensures) (c .enum-told8 .given .1)) e)
+    past-4 (c .before .before .before .before .before) n x
+    (past 4 (numbers-5 c n) s x (lit< tt) (code-good positions (part s 14 1) _ (c .before .before .code3 .ensures) (c .enum-told8 .given .1)) e)
 
 abbrev piece-6 : tie.After-enum-told10 → List ℕ
 piece-6 c = piece-5 (c .before .before .before .before .before .before)
 
-abbrev numbers-6 : tie.After-enum-told10 → Numbers
-numbers-6 c = withTimestamp (c .before .before .before .before .before .before .before .before .before .before .before .before .before .before .before .before .before .before .before .before .before .before .before .before .before .before .timestamp .given .0 .0)
+abbrev numbers-6 : tie.After-enum-told10 → Numbers → Numbers
+numbers-6 c n = withTimestamp n (timestampSaid (c .before .before .before .before .before .before .before .before .before .before .before .before .before .before .before .before .before .before .before .before .before .before .before .before .before .before .timestamp .given .0 .0))
 
-past-6 : (c : tie.After-enum-told10) (x : Reading) → x ≡ readingFrom 6 (numbers-6 c) (piece-6 c) → x ≡ readingFrom 0 noNumbers (piece-6 c)
-past-6 c x e =
+past-6 : (c : tie.After-enum-told10) (n : Numbers) (x : Reading) → x ≡ readingFrom 6 (numbers-6 c n) (piece-6 c) → x ≡ readingFrom 0 n (piece-6 c)
+past-6 c n x e =
     let s = piece-6 c in
-    past-5 (c .before .before .before .before .before .before) x
-    (past 5 (numbers-6 c) s x (lit< tt) (code-on-good (isTrade (getD s 8 0)) liquidities (part s 15 1) _ (c .before .before .liquidity .ensures ∙ ap (λ (t : Bool). keptOn t (code liquidities) (part s 15 1)) (c .before .before .before .is-trade .ensures)) (c .enum-told10 .given .1)) e)
+    past-5 (c .before .before .before .before .before .before) n x
+    (past 5 (numbers-6 c n) s x (lit< tt) (code-on-good (isTrade (getD s 8 0)) liquidities (part s 15 1) _ (c .before .before .liquidity .ensures ∙ ap (λ (t : Bool). keptOn t (code liquidities) (part s 15 1)) (c .before .before .before .is-trade .ensures)) (c .enum-told10 .given .1)) e)
 
 sub-number : tie.Need-sub-number
 sub-number c = search needs
@@ -110,14 +110,10 @@ enum-known-timestamp c = search needs
 enum-told : tie.Need-enum-told
 enum-told c = search needs
 
-refused-requires : tie.Need-refused-requires
-refused-requires c κs = search needs
-
 returns : tie.Need-returns
-returns c =
-    let s = now (c .before .before .before .before .before .before .args .s) in
-    let n = noNumbers in
-    stops 0 n s _ (lit< tt) (value-bad (readNumber 0 86399999 (part s 0 8)) _ (c .before .before .before .number .ensures) (c .before .enum-told .given .1)) (c .refused .ensures)
+returns c n =
+    let s = now (c .before .before .before .before .before .args .s) in
+    stops 0 n s _ (lit< tt) (value-bad (readNumber 0 86399999 (part s 0 8)) _ (c .before .before .number .ensures) (c .enum-told .given .1)) refl
 
 sub-code : tie.Need-sub-code
 sub-code c = search needs
@@ -140,14 +136,11 @@ enum-told-2 c = search needs
 enum-told-3 : tie.Need-enum-told-3
 enum-told-3 c = search needs
 
-refused-requires-2 : tie.Need-refused-requires-2
-refused-requires-2 c κs = search needs
-
 returns-2 : tie.Need-returns-2
-returns-2 c =
-    let s = piece-1 (c .before .before .before .before .before .before) in
-    let n = numbers-1 (c .before .before .before .before .before .before) in
-    past-1 (c .before .before .before .before .before .before) _ (stops 1 n s _ (lit< tt) (code-bad types (part s 8 1) _ (c .before .before .before .code .ensures) (c .before .enum-told3 .given .1)) (c .refused2 .ensures))
+returns-2 c n =
+    let s = piece-1 (c .before .before .before .before .before) in
+    let m = numbers-1 (c .before .before .before .before .before) n in
+    past-1 (c .before .before .before .before .before) n _ (stops 1 m s _ (lit< tt) (code-bad types (part s 8 1) _ (c .before .before .code .ensures) (c .enum-told3 .given .1)) refl)
 
 sub-text : tie.Need-sub-text
 sub-text c = search needs
@@ -167,14 +160,11 @@ enum-told-4 c = search needs
 enum-told-5 : tie.Need-enum-told-5
 enum-told-5 c = search needs
 
-refused-requires-3 : tie.Need-refused-requires-3
-refused-requires-3 c κs = search needs
-
 returns-3 : tie.Need-returns-3
-returns-3 c =
-    let s = piece-2 (c .before .before .before .before .before) in
-    let n = numbers-2 (c .before .before .before .before .before) in
-    past-2 (c .before .before .before .before .before) _ (stops 2 n s _ (lit< tt) (kind-bad text (part s 9 4) _ (c .before .before .before .text .ensures) (c .before .enum-told5 .given .1)) (c .refused3 .ensures))
+returns-3 c n =
+    let s = piece-2 (c .before .before .before .before) in
+    let m = numbers-2 (c .before .before .before .before) n in
+    past-2 (c .before .before .before .before) n _ (stops 2 m s _ (lit< tt) (kind-bad text (part s 9 4) _ (c .before .before .text .ensures) (c .enum-told5 .given .1)) refl)
 
 sub-code-2 : tie.Need-sub-code-2
 sub-code-2 c = search needs
@@ -197,14 +187,11 @@ enum-told-6 c = search needs
 enum-told-7 : tie.Need-enum-told-7
 enum-told-7 c = search needs
 
-refused-requires-4 : tie.Need-refused-requires-4
-refused-requires-4 c κs = search needs
-
 returns-4 : tie.Need-returns-4
-returns-4 c =
-    let s = piece-3 (c .before .before .before .before .before .before) in
-    let n = numbers-3 (c .before .before .before .before .before .before) in
-    past-3 (c .before .before .before .before .before .before) _ (stops 3 n s _ (lit< tt) (code-bad capacities (part s 13 1) _ (c .before .before .before .code2 .ensures) (c .before .enum-told7 .given .1)) (c .refused4 .ensures))
+returns-4 c n =
+    let s = piece-3 (c .before .before .before .before .before) in
+    let m = numbers-3 (c .before .before .before .before .before) n in
+    past-3 (c .before .before .before .before .before) n _ (stops 3 m s _ (lit< tt) (code-bad capacities (part s 13 1) _ (c .before .before .code2 .ensures) (c .enum-told7 .given .1)) refl)
 
 sub-code-3 : tie.Need-sub-code-3
 sub-code-3 c = search needs
@@ -227,14 +214,11 @@ enum-told-8 c = search needs
 enum-told-9 : tie.Need-enum-told-9
 enum-told-9 c = search needs
 
-refused-requires-5 : tie.Need-refused-requires-5
-refused-requires-5 c κs = search needs
-
 returns-5 : tie.Need-returns-5
-returns-5 c =
-    let s = piece-4 (c .before .before .before .before .before .before) in
-    let n = numbers-4 (c .before .before .before .before .before .before) in
-    past-4 (c .before .before .before .before .before .before) _ (stops 4 n s _ (lit< tt) (code-bad positions (part s 14 1) _ (c .before .before .before .code3 .ensures) (c .before .enum-told9 .given .1)) (c .refused5 .ensures))
+returns-5 c n =
+    let s = piece-4 (c .before .before .before .before .before) in
+    let m = numbers-4 (c .before .before .before .before .before) n in
+    past-4 (c .before .before .before .before .before) n _ (stops 4 m s _ (lit< tt) (code-bad positions (part s 14 1) _ (c .before .before .code3 .ensures) (c .enum-told9 .given .1)) refl)
 
 sub-liquidity : tie.Need-sub-liquidity
 sub-liquidity c = search needs
@@ -260,20 +244,17 @@ enum-told-10 c = search needs
 enum-told-11 : tie.Need-enum-told-11
 enum-told-11 c = search needs
 
-refused-requires-6 : tie.Need-refused-requires-6
-refused-requires-6 c κs = search needs
-
 returns-6 : tie.Need-returns-6
-returns-6 c =
-    let s = piece-5 (c .before .before .before .before .before .before .before) in
-    let n = numbers-5 (c .before .before .before .before .before .before .before) in
-    past-5 (c .before .before .before .before .before .before .before) _ (stops 5 n s _ (lit< tt) (on-bad (isTrade (getD s 8 0)) (code liquidities) (part s 15 1) _ (c .before .before .before .liquidity .ensures ∙ ap (λ (t : Bool). keptOn t (code liquidities) (part s 15 1)) (c .before .before .before .before .is-trade .ensures)) (c .before .enum-told11 .given .1)) (c .refused6 .ensures))
+returns-6 c n =
+    let s = piece-5 (c .before .before .before .before .before .before) in
+    let m = numbers-5 (c .before .before .before .before .before .before) n in
+    past-5 (c .before .before .before .before .before .before) n _ (stops 5 m s _ (lit< tt) (on-bad (isTrade (getD s 8 0)) (code liquidities) (part s 15 1) _ (c .before .before .liquidity .ensures ∙ ap (λ (t : Bool). keptOn t (code liquidities) (part s 15 1)) (c .before .before .before .is-trade .ensures)) (c .enum-told11 .given .1)) refl)
 
-account-fields-requires : tie.Need-account-fields-requires
-account-fields-requires c κs = search needs
+no-numbers-requires : tie.Need-no-numbers-requires
+no-numbers-requires c κs = search needs
 
 returns-7 : tie.Need-returns-7
-returns-7 c = past-6 (c .before) _ (c .account-fields .ensures)
+returns-7 c n = past-6 (c .before) n _ refl
 
 pub event-fields-spec : {M : Type 1} → statement M
 event-fields-spec =
@@ -285,7 +266,6 @@ event-fields-spec =
     number-requires
     enum-known-timestamp
     enum-told
-    refused-requires
     returns
     sub-code
     part-code-start
@@ -294,7 +274,6 @@ event-fields-spec =
     code-requires
     enum-told-2
     enum-told-3
-    refused-requires-2
     returns-2
     sub-text
     part-text-start
@@ -302,7 +281,6 @@ event-fields-spec =
     text-requires
     enum-told-4
     enum-told-5
-    refused-requires-3
     returns-3
     sub-code-2
     part-code-start-2
@@ -311,7 +289,6 @@ event-fields-spec =
     code-requires-2
     enum-told-6
     enum-told-7
-    refused-requires-4
     returns-4
     sub-code-3
     part-code-start-3
@@ -320,7 +297,6 @@ event-fields-spec =
     code-requires-3
     enum-told-8
     enum-told-9
-    refused-requires-5
     returns-5
     sub-liquidity
     part-liquidity-start
@@ -330,7 +306,6 @@ event-fields-spec =
     liquidity-requires
     enum-told-10
     enum-told-11
-    refused-requires-6
     returns-6
-    account-fields-requires
+    no-numbers-requires
     returns-7)

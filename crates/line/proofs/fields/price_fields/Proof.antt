@@ -1,6 +1,6 @@
 -- `line::fields::price_fields` meets its contract.
 use Prim.Native.Nat.{ℕ}
-use mathlib.Core.Path.{_∙_, ap, _≡_}
+use mathlib.Core.Path.{_∙_, ap, _≡_, refl}
 use mathlib.Core.List.{List}
 use borrow.Author.Needs.{needs}
 use denote.Ref.{now}
@@ -12,84 +12,69 @@ use Rattle.layout.specs.Layout.{denominators, leastStrike}
 use Rattle.field.specs.Number.{digits as readDigits, price as readPrice}
 use Rattle.layout.specs.declared.Numbers.{Numbers}
 use Rattle.line.specs.declared.Reading.{Reading}
-use Rattle.line.specs.Groups.{readingFrom}
-use Rattle.line.proofs.Steps.{withSeries, past, stops, code-good, code-bad, value-good, value-bad}
+use Rattle.line.specs.Groups.{readingFrom, withSeries}
+use Rattle.line.proofs.Steps.{seriesSaid, past, stops, code-good, code-bad, value-good, value-bad}
 use Rattle.line.proofs.fields.price_fields.Statement.{statement}
 use Rattle.line.proofs.fields.price_fields.Tie as tie
 
 abbrev piece-18 : tie.After-known-told → List ℕ
 piece-18 c = now (c .before .before .before .before .before .before .args .s)
 
-abbrev given-18 : tie.After-known-told → Numbers
-given-18 c = c .before .before .before .before .before .before .args .n
+abbrev numbers-18 : tie.After-known-told → Numbers → Numbers
+numbers-18 c n = withSeries n (seriesSaid (c .before .date .given .0 .0) 0 0 0)
 
-abbrev numbers-18 : tie.After-known-told → Numbers
-numbers-18 c = withSeries (given-18 c) (c .before .date .given .0 .0) (given-18 c .year) (given-18 c .strike) (given-18 c .price)
-
-past-18 : (c : tie.After-known-told) (x : Reading) → x ≡ readingFrom 18 (numbers-18 c) (piece-18 c) → x ≡ readingFrom 17 (given-18 c) (piece-18 c)
-past-18 c x e =
+past-18 : (c : tie.After-known-told) (n : Numbers) (x : Reading) → x ≡ readingFrom 18 (numbers-18 c n) (piece-18 c) → x ≡ readingFrom 17 n (piece-18 c)
+past-18 c n x e =
     let s = piece-18 c in
-    past 17 (numbers-18 c) s x (lit< tt) (value-good (readDigits 1 31 (part s 99 2)) _ _ (c .before .before .before .exactly .ensures) (c .before .date .given .1)) e
+    past 17 (numbers-18 c n) s x (lit< tt) (value-good (readDigits 1 31 (part s 99 2)) _ _ (c .before .before .before .exactly .ensures) (c .before .date .given .1)) e
 
 abbrev piece-19 : tie.After-known-told2 → List ℕ
 piece-19 c = piece-18 (c .before .before .before .before .before)
 
-abbrev given-19 : tie.After-known-told2 → Numbers
-given-19 c = given-18 (c .before .before .before .before .before)
+abbrev numbers-19 : tie.After-known-told2 → Numbers → Numbers
+numbers-19 c n = withSeries n (seriesSaid (c .before .before .before .before .before .before .date .given .0 .0) (c .before .year .given .0 .0) 0 0)
 
-abbrev numbers-19 : tie.After-known-told2 → Numbers
-numbers-19 c = withSeries (given-19 c) (c .before .before .before .before .before .before .date .given .0 .0) (c .before .year .given .0 .0) (given-19 c .strike) (given-19 c .price)
-
-past-19 : (c : tie.After-known-told2) (x : Reading) → x ≡ readingFrom 19 (numbers-19 c) (piece-19 c) → x ≡ readingFrom 17 (given-19 c) (piece-19 c)
-past-19 c x e =
+past-19 : (c : tie.After-known-told2) (n : Numbers) (x : Reading) → x ≡ readingFrom 19 (numbers-19 c n) (piece-19 c) → x ≡ readingFrom 17 n (piece-19 c)
+past-19 c n x e =
     let s = piece-19 c in
-    past-18 (c .before .before .before .before .before) x
-    (past 18 (numbers-19 c) s x (lit< tt) (value-good (readDigits 0 99 (part s 101 2)) _ _ (c .before .before .before .exactly2 .ensures) (c .before .year .given .1)) e)
+    past-18 (c .before .before .before .before .before) n x
+    (past 18 (numbers-19 c n) s x (lit< tt) (value-good (readDigits 0 99 (part s 101 2)) _ _ (c .before .before .before .exactly2 .ensures) (c .before .year .given .1)) e)
 
 abbrev piece-20 : tie.After-enum-told3 → List ℕ
 piece-20 c = piece-19 (c .before .before .before .before .before)
 
-abbrev given-20 : tie.After-enum-told3 → Numbers
-given-20 c = given-19 (c .before .before .before .before .before)
+abbrev numbers-20 : tie.After-enum-told3 → Numbers → Numbers
+numbers-20 c n = withSeries n (seriesSaid (c .before .before .before .before .before .before .before .before .before .before .before .date .given .0 .0) (c .before .before .before .before .before .before .year .given .0 .0) 0 0)
 
-abbrev numbers-20 : tie.After-enum-told3 → Numbers
-numbers-20 c = withSeries (given-20 c) (c .before .before .before .before .before .before .before .before .before .before .before .date .given .0 .0) (c .before .before .before .before .before .before .year .given .0 .0) (given-20 c .strike) (given-20 c .price)
-
-past-20 : (c : tie.After-enum-told3) (x : Reading) → x ≡ readingFrom 20 (numbers-20 c) (piece-20 c) → x ≡ readingFrom 17 (given-20 c) (piece-20 c)
-past-20 c x e =
+past-20 : (c : tie.After-enum-told3) (n : Numbers) (x : Reading) → x ≡ readingFrom 20 (numbers-20 c n) (piece-20 c) → x ≡ readingFrom 17 n (piece-20 c)
+past-20 c n x e =
     let s = piece-20 c in
-    past-19 (c .before .before .before .before .before) x
-    (past 19 (numbers-20 c) s x (lit< tt) (code-good denominators (part s 103 1) _ (c .before .before .code .ensures) (c .enum-told3 .given .1)) e)
+    past-19 (c .before .before .before .before .before) n x
+    (past 19 (numbers-20 c n) s x (lit< tt) (code-good denominators (part s 103 1) _ (c .before .before .code .ensures) (c .enum-told3 .given .1)) e)
 
 abbrev piece-21 : tie.After-known-told3 → List ℕ
 piece-21 c = piece-20 (c .before .before .before .before .before .before .before)
 
-abbrev given-21 : tie.After-known-told3 → Numbers
-given-21 c = given-20 (c .before .before .before .before .before .before .before)
+abbrev numbers-21 : tie.After-known-told3 → Numbers → Numbers
+numbers-21 c n = withSeries n (seriesSaid (c .before .before .before .before .before .before .before .before .before .before .before .before .before .before .before .before .before .before .date .given .0 .0) (c .before .before .before .before .before .before .before .before .before .before .before .before .before .year .given .0 .0) (c .before .strike .given .0 .0) 0)
 
-abbrev numbers-21 : tie.After-known-told3 → Numbers
-numbers-21 c = withSeries (given-21 c) (c .before .before .before .before .before .before .before .before .before .before .before .before .before .before .before .before .before .before .date .given .0 .0) (c .before .before .before .before .before .before .before .before .before .before .before .before .before .year .given .0 .0) (c .before .strike .given .0 .0) (given-21 c .price)
-
-past-21 : (c : tie.After-known-told3) (x : Reading) → x ≡ readingFrom 21 (numbers-21 c) (piece-21 c) → x ≡ readingFrom 17 (given-21 c) (piece-21 c)
-past-21 c x e =
+past-21 : (c : tie.After-known-told3) (n : Numbers) (x : Reading) → x ≡ readingFrom 21 (numbers-21 c n) (piece-21 c) → x ≡ readingFrom 17 n (piece-21 c)
+past-21 c n x e =
     let s = piece-21 c in
-    past-20 (c .before .before .before .before .before .before .before) x
-    (past 20 (numbers-21 c) s x (lit< tt) (value-good (readDigits (leastStrike (getD s 103 0)) 999999 (part s 104 6)) _ _ (c .before .before .before .exactly3 .ensures ∙ ap (λ (d : ℕ). readDigits d 999999 (part s 104 6)) (c .before .before .before .before .least-strike .ensures)) (c .before .strike .given .1)) e)
+    past-20 (c .before .before .before .before .before .before .before) n x
+    (past 20 (numbers-21 c n) s x (lit< tt) (value-good (readDigits (leastStrike (getD s 103 0)) 999999 (part s 104 6)) _ _ (c .before .before .before .exactly3 .ensures ∙ ap (λ (d : ℕ). readDigits d 999999 (part s 104 6)) (c .before .before .before .before .least-strike .ensures)) (c .before .strike .given .1)) e)
 
 abbrev piece-22 : tie.After-known-told4 → List ℕ
 piece-22 c = piece-21 (c .before .before .before .before .before)
 
-abbrev given-22 : tie.After-known-told4 → Numbers
-given-22 c = given-21 (c .before .before .before .before .before)
+abbrev numbers-22 : tie.After-known-told4 → Numbers → Numbers
+numbers-22 c n = withSeries n (seriesSaid (c .before .before .before .before .before .before .before .before .before .before .before .before .before .before .before .before .before .before .before .before .before .before .before .date .given .0 .0) (c .before .before .before .before .before .before .before .before .before .before .before .before .before .before .before .before .before .before .year .given .0 .0) (c .before .before .before .before .before .before .strike .given .0 .0) (c .before .price2 .given .0 .0))
 
-abbrev numbers-22 : tie.After-known-told4 → Numbers
-numbers-22 c = withSeries (given-22 c) (c .before .before .before .before .before .before .before .before .before .before .before .before .before .before .before .before .before .before .before .before .before .before .before .date .given .0 .0) (c .before .before .before .before .before .before .before .before .before .before .before .before .before .before .before .before .before .before .year .given .0 .0) (c .before .before .before .before .before .before .strike .given .0 .0) (c .before .price2 .given .0 .0)
-
-past-22 : (c : tie.After-known-told4) (x : Reading) → x ≡ readingFrom 22 (numbers-22 c) (piece-22 c) → x ≡ readingFrom 17 (given-22 c) (piece-22 c)
-past-22 c x e =
+past-22 : (c : tie.After-known-told4) (n : Numbers) (x : Reading) → x ≡ readingFrom 22 (numbers-22 c n) (piece-22 c) → x ≡ readingFrom 17 n (piece-22 c)
+past-22 c n x e =
     let s = piece-22 c in
-    past-21 (c .before .before .before .before .before) x
-    (past 21 (numbers-22 c) s x (lit< tt) (value-good (readPrice (part s 110 10)) _ _ (c .before .before .before .price .ensures) (c .before .price2 .given .1)) e)
+    past-21 (c .before .before .before .before .before) n x
+    (past 21 (numbers-22 c n) s x (lit< tt) (value-good (readPrice (part s 110 10)) _ _ (c .before .before .before .price .ensures) (c .before .price2 .given .1)) e)
 
 sub-exactly : tie.Need-sub-exactly
 sub-exactly c = search needs
@@ -109,14 +94,10 @@ enum-known-date c = search needs
 enum-told : tie.Need-enum-told
 enum-told c = search needs
 
-refused-requires : tie.Need-refused-requires
-refused-requires c κs = search needs
-
 returns : tie.Need-returns
-returns c =
-    let s = now (c .before .before .before .before .before .before .args .s) in
-    let n = c .before .before .before .before .before .before .args .n in
-    stops 17 n s _ (lit< tt) (value-bad (readDigits 1 31 (part s 99 2)) _ (c .before .before .before .exactly .ensures) (c .before .enum-told .given .1)) (c .refused .ensures)
+returns c n =
+    let s = now (c .before .before .before .before .before .args .s) in
+    stops 17 n s _ (lit< tt) (value-bad (readDigits 1 31 (part s 99 2)) _ (c .before .before .exactly .ensures) (c .enum-told .given .1)) refl
 
 sub-exactly-2 : tie.Need-sub-exactly-2
 sub-exactly-2 c = search needs
@@ -136,14 +117,11 @@ enum-known-year c = search needs
 enum-told-2 : tie.Need-enum-told-2
 enum-told-2 c = search needs
 
-refused-requires-2 : tie.Need-refused-requires-2
-refused-requires-2 c κs = search needs
-
 returns-2 : tie.Need-returns-2
-returns-2 c =
-    let s = piece-18 (c .before .before .before .before .before) in
-    let n = numbers-18 (c .before .before .before .before .before) in
-    past-18 (c .before .before .before .before .before) _ (stops 18 n s _ (lit< tt) (value-bad (readDigits 0 99 (part s 101 2)) _ (c .before .before .before .exactly2 .ensures) (c .before .enum-told2 .given .1)) (c .refused2 .ensures))
+returns-2 c n =
+    let s = piece-18 (c .before .before .before .before) in
+    let m = numbers-18 (c .before .before .before .before) n in
+    past-18 (c .before .before .before .before) n _ (stops 18 m s _ (lit< tt) (value-bad (readDigits 0 99 (part s 101 2)) _ (c .before .before .exactly2 .ensures) (c .enum-told2 .given .1)) refl)
 
 sub-code : tie.Need-sub-code
 sub-code c = search needs
@@ -166,14 +144,11 @@ enum-told-3 c = search needs
 enum-told-4 : tie.Need-enum-told-4
 enum-told-4 c = search needs
 
-refused-requires-3 : tie.Need-refused-requires-3
-refused-requires-3 c κs = search needs
-
 returns-3 : tie.Need-returns-3
-returns-3 c =
-    let s = piece-19 (c .before .before .before .before .before .before) in
-    let n = numbers-19 (c .before .before .before .before .before .before) in
-    past-19 (c .before .before .before .before .before .before) _ (stops 19 n s _ (lit< tt) (code-bad denominators (part s 103 1) _ (c .before .before .before .code .ensures) (c .before .enum-told4 .given .1)) (c .refused3 .ensures))
+returns-3 c n =
+    let s = piece-19 (c .before .before .before .before .before) in
+    let m = numbers-19 (c .before .before .before .before .before) n in
+    past-19 (c .before .before .before .before .before) n _ (stops 19 m s _ (lit< tt) (code-bad denominators (part s 103 1) _ (c .before .before .code .ensures) (c .enum-told4 .given .1)) refl)
 
 sub-exactly-3 : tie.Need-sub-exactly-3
 sub-exactly-3 c = search needs
@@ -199,14 +174,11 @@ enum-known-strike c = search needs
 enum-told-5 : tie.Need-enum-told-5
 enum-told-5 c = search needs
 
-refused-requires-4 : tie.Need-refused-requires-4
-refused-requires-4 c κs = search needs
-
 returns-4 : tie.Need-returns-4
-returns-4 c =
-    let s = piece-20 (c .before .before .before .before .before .before .before) in
-    let n = numbers-20 (c .before .before .before .before .before .before .before) in
-    past-20 (c .before .before .before .before .before .before .before) _ (stops 20 n s _ (lit< tt) (value-bad (readDigits (leastStrike (getD s 103 0)) 999999 (part s 104 6)) _ (c .before .before .before .exactly3 .ensures ∙ ap (λ (d : ℕ). readDigits d 999999 (part s 104 6)) (c .before .before .before .before .least-strike .ensures)) (c .before .enum-told5 .given .1)) (c .refused4 .ensures))
+returns-4 c n =
+    let s = piece-20 (c .before .before .before .before .before .before) in
+    let m = numbers-20 (c .before .before .before .before .before .before) n in
+    past-20 (c .before .before .before .before .before .before) n _ (stops 20 m s _ (lit< tt) (value-bad (readDigits (leastStrike (getD s 103 0)) 999999 (part s 104 6)) _ (c .before .before .exactly3 .ensures ∙ ap (λ (d : ℕ). readDigits d 999999 (part s 104 6)) (c .before .before .before .least-strike .ensures)) (c .enum-told5 .given .1)) refl)
 
 sub-price : tie.Need-sub-price
 sub-price c = search needs
@@ -226,20 +198,17 @@ enum-known-price c = search needs
 enum-told-6 : tie.Need-enum-told-6
 enum-told-6 c = search needs
 
-refused-requires-5 : tie.Need-refused-requires-5
-refused-requires-5 c κs = search needs
-
 returns-5 : tie.Need-returns-5
-returns-5 c =
-    let s = piece-21 (c .before .before .before .before .before) in
-    let n = numbers-21 (c .before .before .before .before .before) in
-    past-21 (c .before .before .before .before .before) _ (stops 21 n s _ (lit< tt) (value-bad (readPrice (part s 110 10)) _ (c .before .before .before .price .ensures) (c .before .enum-told6 .given .1)) (c .refused5 .ensures))
+returns-5 c n =
+    let s = piece-21 (c .before .before .before .before) in
+    let m = numbers-21 (c .before .before .before .before) n in
+    past-21 (c .before .before .before .before) n _ (stops 21 m s _ (lit< tt) (value-bad (readPrice (part s 110 10)) _ (c .before .before .price .ensures) (c .enum-told6 .given .1)) refl)
 
-trade-fields-requires : tie.Need-trade-fields-requires
-trade-fields-requires c κs = search needs
+no-numbers-requires : tie.Need-no-numbers-requires
+no-numbers-requires c κs = search needs
 
 returns-6 : tie.Need-returns-6
-returns-6 c = past-22 (c .before) _ (c .trade-fields .ensures)
+returns-6 c n = past-22 (c .before) n _ refl
 
 pub price-fields-spec : {M : Type 1} → statement M
 price-fields-spec =
@@ -251,7 +220,6 @@ price-fields-spec =
     exactly-requires
     enum-known-date
     enum-told
-    refused-requires
     returns
     sub-exactly-2
     part-exactly-start-2
@@ -259,7 +227,6 @@ price-fields-spec =
     exactly-requires-2
     enum-known-year
     enum-told-2
-    refused-requires-2
     returns-2
     sub-code
     part-code-start
@@ -268,7 +235,6 @@ price-fields-spec =
     code-requires
     enum-told-3
     enum-told-4
-    refused-requires-3
     returns-3
     sub-exactly-3
     part-exactly-start-3
@@ -278,7 +244,6 @@ price-fields-spec =
     exactly-requires-3
     enum-known-strike
     enum-told-5
-    refused-requires-4
     returns-4
     sub-price
     part-price-start
@@ -286,7 +251,6 @@ price-fields-spec =
     price-requires
     enum-known-price
     enum-told-6
-    refused-requires-5
     returns-5
-    trade-fields-requires
+    no-numbers-requires
     returns-6)

@@ -57,11 +57,11 @@ refused-requires-3 c κs = search needs
 returns-4 : tie.Need-returns-4
 returns-4 c = odd-byte (now (c .before .before .before .before .before .before .before .before .before .before .before .args .piece)) _ _ (c .before .before .before .before .before .before .before .before .before .is-crlf .ensures) (c .before .before .before .before .before .before .before .before .if1 .left) (c .before .before .before .before .before .before .before .if2 .left) _ (c .before .before .before .before .before .is-crlf2 .ensures) (not-false _ (c .before .before .before .before .if3 .left)) _ (c .before .before .all-of .ensures) (not-true _ (c .before .if4 .taken)) (c .refused3 .ensures)
 
-event-fields-requires : tie.Need-event-fields-requires
-event-fields-requires c κs = search needs
+by-fields-requires : tie.Need-by-fields-requires
+by-fields-requires c κs = search needs
 
 returns-5 : tie.Need-returns-5
-returns-5 c = by-fields (now (c .before .before .before .before .before .before .before .before .before .before .before .args .piece)) _ _ (c .before .before .before .before .before .before .before .before .before .is-crlf .ensures) (c .before .before .before .before .before .before .before .before .if1 .left) (c .before .before .before .before .before .before .before .if2 .left) _ (c .before .before .before .before .before .is-crlf2 .ensures) (not-false _ (c .before .before .before .before .if3 .left)) _ (c .before .before .all-of .ensures) (not-false _ (c .before .if4 .left)) (c .event-fields .ensures)
+returns-5 c = by-fields (now (c .before .before .before .before .before .before .before .before .before .before .before .args .piece)) _ _ (c .before .before .before .before .before .before .before .before .before .is-crlf .ensures) (c .before .before .before .before .before .before .before .before .if1 .left) (c .before .before .before .before .before .before .before .if2 .left) _ (c .before .before .before .before .before .is-crlf2 .ensures) (not-false _ (c .before .before .before .before .if3 .left)) _ (c .before .before .all-of .ensures) (not-false _ (c .before .if4 .left)) (c .by-fields .ensures)
 
 pub read-spec : {M : Type 1} → statement M
 read-spec =
@@ -84,5 +84,5 @@ read-spec =
     all-of-requires
     refused-requires-3
     returns-4
-    event-fields-requires
+    by-fields-requires
     returns-5)
