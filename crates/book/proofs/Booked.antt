@@ -5,7 +5,7 @@ use mathlib.Core.Bool.{true, false}
 use mathlib.Core.List.{List, [], _∷_}
 use native.Mathlib.Omega.{arith}
 use lib.Seq.{sets, length-sets}
-use Rattle.cell.specs.Cells.{le, leBytes}
+use Rattle.cell.specs.Cells.{le}
 use Rattle.refusal.specs.Answer.{value, refusedBy}
 use Rattle.refusal.specs.declared.Refusal.{Refusal}
 use Rattle.refusal.specs.declared.Refusal.the-variants.{Damaged, DayOver}
@@ -18,9 +18,10 @@ use Rattle.order.specs.declared.Order.{Order}
 use Rattle.day.specs.Machine.{withFigures, newOrder}
 use Rattle.slot.specs.Slots.{orderIn, slotBytes}
 use Rattle.slot.specs.Places.{slot, slotAt, SlotInside}
+use Rattle.table.specs.Changes.{changedAt, appended}
 use Rattle.table.specs.Tables.{countIn, sound, tableIn}
 use Rattle.slot.proofs.Laws.{header-kept}
-use Rattle.book.specs.Bytes.{changedAt, appended, bookBytes, bookAnswer}
+use Rattle.book.specs.Bytes.{bookBytes, bookAnswer}
 use Rattle.book.specs.Plans.{refigured, Plans, BooksSaid, answerOf, afterPlan}
 use Rattle.book.specs.Promises.{Books, bookingOf}
 use Rattle.book.specs.declared.Booking.{Booking}
@@ -29,10 +30,6 @@ use Rattle.book.specs.declared.Plan.{Plan}
 use Rattle.book.specs.declared.Plan.the-variants.{Replace}
 
 -- ---- what is stored
-
-pub one-more : (s u v : List ℕ) (n : ℕ) (o : Order) → n ≡ countIn s → u ≡ sets s (slotAt n) (slotBytes o) → v ≡ sets u 0 (leBytes 4 (n + 1))
-    → v ≡ appended o s
-one-more s u v n o e f g = g ∙ ap (λ x. sets x 0 (leBytes 4 (n + 1))) f ∙ ap (λ m. sets (sets s (slotAt m) (slotBytes o)) 0 (leBytes 4 (m + 1))) e
 
 pub one-changed : (s : List ℕ) (i : ℕ) (g : Order → Order) (o : Order) → o ≡ orderIn (slot s i)
     → sets s (slotAt i) (slotBytes (g o)) ≡ changedAt i g s

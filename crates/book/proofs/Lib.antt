@@ -6,14 +6,10 @@ pub mod Judged
 pub mod Planned
 -- Each way out of booking a piece keeps the promise
 pub mod Booked
--- Stored bytes follow the table through each of its changes
-pub mod Holding
--- Bytes have no damage where their table has none
-pub mod Sound
+-- Booking keeps the length of a table
+pub mod Lengths
 -- A piece leaves a sound table sound, as the rules say
 pub mod Machine
--- Booking at the bytes is booking at the limit 512
-pub mod Limited
 -- From the empty table on, bytes and rules always agree
 pub mod Reached
 -- Two outcomes that the promise allows are equal

@@ -1,7 +1,7 @@
 -- A sound table after a piece: it holds what the state machine says, and it is sound again.
-use Prim.Native.Nat.{ℕ, zero, suc, _+_, _≤_}
+use Prim.Native.Nat.{ℕ, zero, suc, _+_, _<_}
 use native.Mathlib.Omega.{arith}
-use mathlib.Core.Path.{_≡_, refl, ap, _∙_}
+use mathlib.Core.Path.{_≡_, refl}
 use mathlib.Core.Bool.{Bool, true, false, cond}
 use mathlib.Core.List.{List, [], _∷_, _++_}
 use borrow.Author.Tests.{leb-true, leb-false, eqb-true}
@@ -29,16 +29,18 @@ use Rattle.day.proofs.Orders.{Finds, stands, length-amend}
 use Rattle.day.proofs.Sound.{book-undamaged}
 use Rattle.day.proofs.Undamaged.{apart}
 use Rattle.slot.specs.Slots.{Fits}
+use Rattle.table.specs.Changes.{changed}
 use Rattle.table.specs.Tables.{limitOf, tableIn, sound}
-use Rattle.table.proofs.Limits.{limit-is, limit-most}
+use Rattle.table.proofs.Limits.{limit-small}
 use Rattle.slot.proofs.Room.{sound-fits}
-use Rattle.book.specs.Bytes.{changed, eventBytes, acceptBytes, readBytes, bookBytes}
-use Rattle.book.proofs.Holding.{Holds, AllFit, changed-holds, appended-holds, over-holds}
-use Rattle.book.proofs.Sound.{sound-holds, holds-sound}
+use Rattle.table.proofs.Holding.{Holds, AllFit, length-changed, changed-holds, appended-holds, over-holds}
+use Rattle.table.proofs.Sound.{sound-apart, holds-sound}
+use Rattle.book.specs.Bytes.{eventBytes, acceptBytes, readBytes, bookBytes, bookAnswer}
+use Rattle.book.proofs.Lengths.{booked-length}
 
 -- ---- undamaged orders have room in their slots
 
-fit-from : (k : ℕ) (os : List Order) → k + length os ≤ 512 → earlier k (eldersOf os) ≡ true → allSound os ≡ true → AllFit os
+fit-from : (k : ℕ) (os : List Order) → k + length os < 65536 → earlier k (eldersOf os) ≡ true → allSound os ≡ true → AllFit os
 fit-from k [] h a s none i l = absurd (omega arith)
 fit-from k (o ∷ os) h a s none zero l =
     let e = leb-true (o .elder) k (both (leb (o .elder) k) (earlier (k + 1) (eldersOf os)) a .0) in
@@ -63,24 +65,24 @@ module _ {s : List ℕ} (h : Holds s (tableIn s)) where
       → Holds (changed k f s) (withOrders (amend k f os) (tableIn s))
   found-holds {k} f e fit = let (i, p) = stands f e in changed-holds k f i h (omega (arith, p .numbered)) fit
 
-  event-holds : {limit : ℕ} {r : Record} → limit ≤ 512 → Admitted limit os r → (e : Event) → r .event ≡ e
+  event-holds : {r : Record} → Admitted (limitOf (length s)) os r → (e : Event) → r .event ≡ e
       → (isNew e ≡ false → (o : Order) × Spoken os r o) → AllFit (bookEvent e r os)
       → Holds (eventBytes e r s) (withOrders (bookEvent e r os) (tableIn s))
-  event-holds {limit} {r} most a Accepted q theirs fit =
-      let room = leb-false limit (length os) (rw q at (a .room)) in
-      appended-holds s (newOrder r (r .contracts) 0) h (omega arith) (last-fits os (newOrder r (r .contracts) 0) fit)
-  event-holds most a (Executed t) q theirs fit = let (o, p) = theirs refl in found-holds _ (rw q at (p .finds)) fit
-  event-holds most a Cancelled q theirs fit = let (o, p) = theirs refl in found-holds _ (rw q at (p .finds)) fit
-  event-holds most a (Broken t) q theirs fit = let (o, p) = theirs refl in found-holds _ (rw q at (p .finds)) fit
-  event-holds {limit} {r} most a Replaced q theirs fit =
+  event-holds {r} a Accepted q theirs fit =
+      let room = leb-false (limitOf (length s)) (length os) (rw q at (a .room)) in
+      appended-holds s (newOrder r (r .contracts) 0) h room (last-fits os (newOrder r (r .contracts) 0) fit)
+  event-holds a (Executed t) q theirs fit = let (o, p) = theirs refl in found-holds _ (rw q at (p .finds)) fit
+  event-holds a Cancelled q theirs fit = let (o, p) = theirs refl in found-holds _ (rw q at (p .finds)) fit
+  event-holds a (Broken t) q theirs fit = let (o, p) = theirs refl in found-holds _ (rw q at (p .finds)) fit
+  event-holds {r} a Replaced q theirs fit =
       let (o, p) = theirs refl in
       let k = elderKeyOf r in
       let f = withFigures passedOn in
       let young = newOrder r (r .contracts) (place k os) in
       let elders = found-holds f (rw q at (p .finds)) (others-fit (amend k f os) young fit) in
-      let room = leb-false limit (length os) (rw q at (a .room)) in
-      appended-holds (changed k f s) young elders (omega (arith, length-amend k f os)) (last-fits (amend k f os) young fit)
-  event-holds most a Repriced q theirs fit = let (o, p) = theirs refl in found-holds _ (rw q at (p .finds)) fit
+      let room = leb-false (limitOf (length s)) (length os) (rw q at (a .room)) in
+      appended-holds (changed k f s) young elders (rw (length-amend k f os, length-changed k f s) room) (last-fits (amend k f os) young fit)
+  event-holds a Repriced q theirs fit = let (o, p) = theirs refl in found-holds _ (rw q at (p .finds)) fit
 
 -- ---- a piece
 
@@ -89,7 +91,7 @@ module _ {s : List ℕ} (h : Holds s (tableIn s)) where
   limit = limitOf (length s)
 
   fit : (t : Table) → undamaged limit t ≡ true → AllFit (t .orders)
-  fit t u = let a = apart limit t u in fit-from 0 (t .orders) (omega (arith, a .fits, limit-most (length s))) (a .early) (a .sound)
+  fit t u = let a = apart limit t u in fit-from 0 (t .orders) (omega (arith, a .fits, limit-small (length s))) (a .early) (a .sound)
 
   -- what the state machine says once the test for a refusal came out as b
   abbrev after : Said → Bool → Booked
@@ -103,7 +105,7 @@ module _ {s : List ℕ} (h : Holds s (tableIn s)) where
   said-holds endOfDay true z u = over-holds h
   said-holds (line r) true z u =
       let a = admitted limit (tableIn s) r (eqb-true (refusalOf limit (tableIn s) (line r)) 0 z) in
-      event-holds h (limit-most (length s)) a (r .event) refl (λ n. spoken n a) (fit (accept (line r) (tableIn s)) u)
+      event-holds h a (r .event) refl (λ n. spoken n a) (fit (accept (line r) (tableIn s)) u)
 
   read-holds : (a : Answer Said) → undamaged limit (bookRead limit (tableIn s) a .table) ≡ true
       → Holds (readBytes a s) (bookRead limit (tableIn s) a .table)
@@ -112,19 +114,23 @@ module _ {s : List ℕ} (h : Holds s (tableIn s)) where
 
 -- ---- booking
 
-booked-holds : (s p : List ℕ) → sound s ≡ true → Holds (bookBytes s p) (bookDay (limitOf (length s)) (tableIn s) p .table)
-unfolding bookBytes
-booked-holds s p e =
-    let (h, u) = sound-holds s e in
-    rw e (read-holds h (read p) (book-undamaged (limitOf (length s)) (tableIn s) p u))
+module _ (s p : List ℕ) (e : sound s ≡ true) where
+  abbrev booked : Booked
+  booked = bookDay (limitOf (length s)) (tableIn s) p
 
-pub booked-table : (s p : List ℕ) → sound s ≡ true → tableIn (bookBytes s p) ≡ bookDay (limitOf (length s)) (tableIn s) p .table
-booked-table s p e = booked-holds s p e .says
+  booked-undamaged : undamaged (limitOf (length s)) (booked .table) ≡ true
+  booked-undamaged = book-undamaged (limitOf (length s)) (tableIn s) p (sound-apart s e .orders)
 
-pub booked-sound : (s p : List ℕ) → sound s ≡ true → sound (bookBytes s p) ≡ true
-booked-sound s p e =
-    let (h, u) = sound-holds s e in
-    let limit = limitOf (length s) in
-    let after = bookDay limit (tableIn s) p .table in
-    holds-sound (booked-holds s p e)
-    (ap (λ n. undamaged n after) (limit-is (length s) (h .long)) ∙ book-undamaged limit (tableIn s) p u)
+  booked-holds : Holds (bookBytes s p) (booked .table)
+  unfolding bookBytes
+  booked-holds = rw e (read-holds (sound-apart s e .bytes) (read p) booked-undamaged)
+
+  pub booked-table : tableIn (bookBytes s p) ≡ booked .table
+  booked-table = booked-holds .says
+
+  pub booked-answer : bookAnswer s p ≡ booked .answer
+  unfolding bookAnswer
+  booked-answer = rw e
+
+  pub booked-sound : sound (bookBytes s p) ≡ true
+  booked-sound = holds-sound booked-holds (rw (booked-length s p) booked-undamaged)

@@ -24,8 +24,9 @@ use Rattle.day.specs.Machine.{nobody, found, find, isFound, place, differs, not
 use Rattle.day.specs.Refusals.{subject}
 use Rattle.slot.specs.Slots.{orderIn}
 use Rattle.slot.specs.Places.{slot, SlotInside}
+use Rattle.table.specs.Changes.{changedAt, changed, appended}
 use Rattle.table.specs.Tables.{limitOf, tableIn}
-use Rattle.book.specs.Bytes.{changedAt, changed, appended, eventBytes}
+use Rattle.book.specs.Bytes.{eventBytes}
 use Rattle.book.specs.Plans.{Plans, RoomFor, planBy, planAbout, answerOf, afterPlan}
 use Rattle.book.specs.declared.Plan.{Plan}
 use Rattle.book.specs.declared.Plan.the-variants.{No, New}

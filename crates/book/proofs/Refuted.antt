@@ -5,7 +5,7 @@ use mathlib.Core.Path.{_≡_, refl, sym, ap, _∙_}
 use mathlib.Core.Bool.{Bool, true, false, cond}
 use mathlib.Core.List.{List, [], _∷_}
 use lib.Dec.{eqb}
-use lib.ListN.{length, replicate, length-replicate}
+use lib.ListN.{length}
 use Rattle.refusal.specs.Answer.{Answer, value, refused}
 use Rattle.layout.proofs.Forms.{no-value}
 use Rattle.layout.specs.Line.{Said, read, lineOf}
@@ -15,8 +15,9 @@ use Rattle.day.specs.Damage.{openAt}
 use Rattle.day.specs.Demand3.{tableAfter, answerTo}
 use Rattle.day.specs.Machine.{refusalOf, bookRead}
 use Rattle.day.specs.Machine.{book as bookDay}
-use Rattle.table.specs.Tables.{limitOf, tableIn, sound}
-use Rattle.table.proofs.Limits.{limit-none}
+use Rattle.table.specs.Tables.{leastLimit, limitOf, tableIn, sound}
+use Rattle.table.proofs.Answers.{no-limit}
+use Rattle.table.proofs.Making.{blank, blank-limit, blank-meant}
 use Rattle.book.specs.Bytes.{readBytes, bookBytes, bookAnswer, bytesAfter}
 use Rattle.book.specs.Promises.{bookingOf}
 use Rattle.book.specs.Wrong.{Keeps, RefusesAll, ChangesNothing, NodsAtRest, ChangesRefusing, BooksDamaged, BooksOtherLength}
@@ -32,12 +33,16 @@ order = lineOf (naming Accepted 1 100)
 abbrev trade : List ℕ
 trade = lineOf (naming (Executed fill) 1 30)
 
--- a buffer with room, and the table made in it
-lent : (s : List ℕ) × (length s ≡ 40968)
-lent = (replicate 40968 0, length-replicate {A = ℕ} 40968 0)
-
+-- the table made in a lent buffer, and what the pieces booked into it lead to
 abbrev after : List (List ℕ) → List ℕ
-after = bytesAfter (lent .0)
+after = bytesAfter blank
+
+abbrev limit : ℕ
+limit = leastLimit
+
+reached : (ps : List (List ℕ)) → (tableIn (after ps) ≡ tableAfter (bookDay limit) ps) × (sound (after ps) ≡ true)
+    × ((p : List ℕ) → bookAnswer (after ps) p ≡ answerTo (bookDay limit) ps p)
+reached ps = rw blank-limit at (reached-bytes blank blank-meant ps)
 
 -- ---- a refusal
 
@@ -62,20 +67,20 @@ refusal-stays s p {n} {f} = go (sound s)
 
 module _ {book : List ℕ → List ℕ → Booking × List ℕ} (keeps : Keeps book) where
   -- a piece that the machine of the day accepts is booked
-  booked : (ps : List (List ℕ)) (p : List ℕ) → answerTo (bookDay 512) ps p ≡ value tt
+  booked : (ps : List (List ℕ)) (p : List ℕ) → answerTo (bookDay limit) ps p ≡ value tt
       → (book (after ps) p .0 ≡ Booked) × (book (after ps) p .1 ≡ after (p ∷ ps))
   booked ps p e =
-      let said = reached-bytes (lent .0) (lent .1) ps .2 p ∙ e in
+      let said = reached ps .2 p ∙ e in
       book-determined (after ps) p _ Booked _ (after (p ∷ ps)) (keeps (after ps) p) (record { said = sym said; out = refl })
 
   -- and the orders stay if the table does
-  nodded : (ps : List (List ℕ)) (p : List ℕ) → answerTo (bookDay 512) ps p ≡ value tt
+  nodded : (ps : List (List ℕ)) (p : List ℕ) → answerTo (bookDay limit) ps p ≡ value tt
       → (book (after ps) p .0 ≡ Booked → book (after ps) p .1 ≡ after ps)
-      → tableAfter (bookDay 512) (p ∷ ps) .orders ≡ tableAfter (bookDay 512) ps .orders
+      → tableAfter (bookDay limit) (p ∷ ps) .orders ≡ tableAfter (bookDay limit) ps .orders
   nodded ps p e same =
       let (b, t) = booked ps p e in
       let stays = ap tableIn (sym t ∙ same b) in
-      ap (λ t. t .orders) (sym (reached-bytes (lent .0) (lent .1) (p ∷ ps) .0) ∙ stays ∙ reached-bytes (lent .0) (lent .1) ps .0)
+      ap (λ t. t .orders) (sym (reached (p ∷ ps) .0) ∙ stays ∙ reached ps .0)
 
   pub refuses-all : RefusesAll book → ⊥
   unfolding read lineOf
@@ -90,7 +95,7 @@ module _ {book : List ℕ → List ℕ → Booking × List ℕ} (keeps : Keeps b
   pub nods-at-rest : NodsAtRest book → ⊥
   unfolding read lineOf
   nods-at-rest same =
-      let one = ap (λ t. length (t .orders)) (reached-bytes (lent .0) (lent .1) (order ∷ []) .0) in
+      let one = ap (λ t. length (t .orders)) (reached (order ∷ []) .0) in
       omega (arith, ap (λ os. openAt os 0) (nodded (order ∷ []) trade refl (same (after (order ∷ [])) trade (omega (arith, one)))))
 
   pub changes-refusing : ChangesRefusing book → ⊥
@@ -102,5 +107,4 @@ module _ {book : List ℕ → List ℕ → Booking × List ℕ} (keeps : Keeps b
   books-damaged (s, p, damaged, e) = no-value (sym (rw damaged at (sym (ap bookingOf e) ∙ keeps s p .said)))
 
   pub books-other-length : BooksOtherLength book → ⊥
-  unfolding sound
-  books-other-length (s, p, other, e) = books-damaged (s, p, rw (← limit-none (length s) other), e)
+  books-other-length (s, p, other, e) = books-damaged (s, p, sym (no-limit s other), e)

@@ -19,7 +19,7 @@ use Rattle.table.specs.Tables.{countIn, limitOf, sound, tableIn}
 use Rattle.slot.proofs.Laws.{length-orders, order-no}
 use Rattle.table.proofs.Limits.{slot-inside}
 use Rattle.slot.proofs.Lookups.{at-found}
-use Rattle.table.proofs.Whole.{whole}
+use Rattle.table.proofs.Sound.{sound-apart}
 
 -- o, at place i, is the order that a lookup of k finds
 pub record There (s : List ℕ) (k : Key) (i : ℕ) (o : Order) : Type 0 where
@@ -30,13 +30,13 @@ pub record There (s : List ℕ) (k : Key) (i : ℕ) (o : Order) : Type 0 where
 pub there : (s : List ℕ) (k : Key) (i : ℕ) (o : Order) → sound s ≡ true → place k (tableIn s .orders) ≡ i + 1 → o ≡ orderIn (slot s i)
     → There s k i o
 there s k i o e p q =
-    let w = whole s e in
+    let w = sound-apart s e in
     let h = at-found k (tableIn s .orders) i o p in
     let n = length-orders 0 (countIn s) s in
     let same : getD (tableIn s .orders) i o ≡ o =
     order-no 0 (countIn s) s i o (omega (arith, h .0)) ∙ ap (λ j. orderIn (slot s j)) (zero-add i) ∙ sym q in
     record {
-      inside = slot-inside (length s) i (omega (arith, h .0, w .fits));
+      inside = slot-inside (length s) i (omega (arith, h .0, w .bytes .few));
       is = h .1 ∙ ap found same;
       sums = rw same at (sums (limitOf (length s)) (tableIn s) (w .orders) o i (h .0));
     }

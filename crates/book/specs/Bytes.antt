@@ -1,11 +1,10 @@
 -- What booking does to the bytes of a lent table (docs/LAYOUT.md).
-use Prim.Native.Nat.{ℕ, _+_, _-_}
+use Prim.Native.Nat.{ℕ}
 use mathlib.Core.Bool.{cond}
 use mathlib.Core.List.{List, [], _∷_}
 use lib.Dec.{eqb}
 use lib.ListN.{length, replicate}
 use lib.Seq.{sets}
-use Rattle.cell.specs.Cells.{leBytes}
 use Rattle.refusal.specs.Answer.{Answer, value, refused}
 use Rattle.layout.specs.Line.{Said, endOfDay, line, read}
 use Rattle.layout.specs.declared.Event.{Event}
@@ -13,25 +12,10 @@ use Rattle.layout.specs.declared.Event.the-variants.{Accepted, Executed, Cancel
 use Rattle.layout.specs.declared.Record.{Record}
 use Rattle.order.specs.Figure.{executedBy, brokenBy, cancelledBy, passedOn}
 use Rattle.order.specs.Names.{keyOf, elderKeyOf}
-use Rattle.order.specs.declared.Key.{Key}
-use Rattle.order.specs.declared.Order.{Order}
 use Rattle.day.specs.Machine.{place, refusalOf, withFigures, withPrice, newOrder}
 use Rattle.day.specs.Machine.{book as bookDay}
-use Rattle.slot.specs.Slots.{orderIn, slotBytes}
-use Rattle.slot.specs.Places.{slotAt, slot}
-use Rattle.table.specs.Tables.{countIn, limitOf, tableIn, sound}
-
--- the order at place i changed
-abbrev pub changedAt : ℕ → (Order → Order) → List ℕ → List ℕ
-changedAt i f s = sets s (slotAt i) (slotBytes (f (orderIn (slot s i))))
-
--- the earliest order with a key changed
-abbrev pub changed : Key → (Order → Order) → List ℕ → List ℕ
-changed k f s = changedAt (place k (tableIn s .orders) - 1) f s
-
--- one order more, behind the others
-abbrev pub appended : Order → List ℕ → List ℕ
-appended o s = sets (sets s (slotAt (countIn s)) (slotBytes o)) 0 (leBytes 4 (countIn s + 1))
+use Rattle.table.specs.Changes.{changed, appended}
+use Rattle.table.specs.Tables.{limitOf, tableIn, sound}
 
 abbrev pub eventBytes : Event → Record → List ℕ → List ℕ
 eventBytes Accepted r s = appended (newOrder r (r .contracts) 0) s

@@ -16,8 +16,9 @@ use Rattle.order.specs.declared.Order.{Order}
 use Rattle.day.specs.History.{isMaker}
 use Rattle.day.specs.Machine.{bookSaid, found, differs, notOpen, notExecuted, withFigures, withPrice, newOrder}
 use Rattle.slot.specs.Places.{SlotInside}
+use Rattle.table.specs.Changes.{changedAt, appended}
 use Rattle.table.specs.Tables.{countIn, limitOf, tableIn}
-use Rattle.book.specs.Bytes.{changedAt, appended, saidBytes}
+use Rattle.book.specs.Bytes.{saidBytes}
 use Rattle.book.specs.Promises.{bookingOf}
 use Rattle.book.specs.declared.Booking.{Booking}
 use Rattle.book.specs.declared.Plan.{Plan}

@@ -5,7 +5,7 @@ use mathlib.Core.Bool.{false}
 use mathlib.Core.List.{List}
 use lib.ListN.{length}
 use Rattle.refusal.specs.declared.Refusal.{Refusal}
-use Rattle.table.specs.Tables.{tableIn, sound}
+use Rattle.table.specs.Tables.{limitOf, tableIn, sound}
 use Rattle.book.specs.Promises.{Books}
 use Rattle.book.specs.declared.Booking.{Booking}
 use Rattle.book.specs.declared.Booking.the-variants.{Booked, Refused}
@@ -37,6 +37,6 @@ module _ (book : List ℕ → List ℕ → Booking × List ℕ) where
   abbrev pub BooksDamaged : Type 0
   BooksDamaged = (before : List ℕ) × (piece : List ℕ) × (sound before ≡ false) × (book before piece .0 ≡ Booked)
 
-  -- or in one of another length
+  -- or in one of a length that has no meaning
   abbrev pub BooksOtherLength : Type 0
-  BooksOtherLength = (before : List ℕ) × (piece : List ℕ) × (length before ≡ 40968 → ⊥) × (book before piece .0 ≡ Booked)
+  BooksOtherLength = (before : List ℕ) × (piece : List ℕ) × (limitOf (length before) ≡ 0) × (book before piece .0 ≡ Booked)

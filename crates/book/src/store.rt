@@ -3,9 +3,9 @@ ghost use mathlib.Core.Path.{_≡_};
 ghost use mathlib.Core.Bool.{true};
 ghost use Rattle.layout.specs.Line.{line, endOfDay};
 ghost use Rattle.day.specs.Machine.{newOrder, withPrice};
+ghost use Rattle.table.specs.Changes.{changedAt};
 ghost use Rattle.slot.specs.Places.{SlotInside};
-ghost use Rattle.table.specs.Tables.{countIn, sound};
-ghost use Rattle.book.specs.Bytes.{appended, changedAt};
+ghost use Rattle.table.specs.Tables.{sound};
 ghost use Rattle.book.specs.Plans.{BooksSaid, refigured};
 ghost use Rattle.book.specs.Promises.{Books};
 use crate::Booking;
@@ -61,7 +61,7 @@ fn book_line(t: &mut [u8], r: Record) -> Booking
     match planning::plan(t, r) {
         Plan::No(x) => Booking::Refused(x),
         Plan::New => {
-            append(t, new_order(r, r.contracts, 0));
+            table::append(t, new_order(r, r.contracts, 0));
             Booking::Booked
         }
         Plan::Change(i, f) => {
@@ -74,7 +74,7 @@ fn book_line(t: &mut [u8], r: Record) -> Booking
         }
         Plan::Replace(i, f) => {
             refigure(t, i, f);
-            append(t, new_order(r, r.contracts, i as u64 + 1));
+            table::append(t, new_order(r, r.contracts, i as u64 + 1));
             Booking::Booked
         }
     }
@@ -92,16 +92,6 @@ fn new_order(r: Record, size: u64, elder: u64) -> Order
         elder,
         figures: Figures::fresh(size),
     }
-}
-
-// One order more. Its slot is stored before the count says that it is there.
-fn append(t: &mut [u8], o: Order)
-    requires { ⌜ SlotInside (countIn (now t)) (now t) ⌝ }
-    ensures { λ _. ⌜ now (t .exit) ≡ appended o (now (t .entry)) ⌝ }
-{
-    let n = header::count(t);
-    slot::store(t, n as usize, o);
-    header::put_count(t, n + 1);
 }
 
 fn refigure(t: &mut [u8], i: usize, f: Figures)

@@ -5,7 +5,7 @@ use mathlib.Core.Path.{_≡_, refl, _∙_, ap}
 use mathlib.Core.Bool.{true, false, false≢true}
 use mathlib.Core.List.{List, [], _++_, append-assoc, append-nil}
 use lib.ListN.{length, take}
-use Rattle.table.specs.Tables.{sound, tableLength}
+use Rattle.table.specs.Tables.{limitOf, sound}
 use Rattle.run.proofs.Parts.{part-whole}
 use Rattle.table.proofs.Making.{empty-sound}
 use Rattle.book.specs.Bytes.{bytesAfter}
@@ -63,12 +63,16 @@ unread p =
 
 -- ---- the whole program
 
+-- room for the end of the text stays where table and output buffer keep their lengths
+pub room-kept : {table first out before : ℕ} → table ≡ first → out ≡ before → roomAtEnd (limitOf first) ≤ before → roomAtEnd (limitOf table) ≤ out
+room-kept p q h = rw (p, q) h
+
 module _ (before : List ℕ) {begun : List ℕ} (b : begun ≡ bytesAfter before []) where
-  pub begun-sound : length before ≡ tableLength 512 → sound begun ≡ true
-  begun-sound long = ap sound b ∙ empty-sound before long .0
+  pub begun-sound : 0 < limitOf (length before) → sound begun ≡ true
+  begun-sound meant = ap sound b ∙ empty-sound before meant
 
   pub all-printed : {t hold : List ℕ} {r : Kept} → Reads (between [] 1 begun) r t hold → r .good ≡ true → {buffer last out : List ℕ}
-      → Ends (between (heldIn hold (r .held)) (r .line) t) buffer last out → roomAtEnd ≤ length buffer → Prints before out
+      → Ends (between (heldIn hold (r .held)) (r .line) t) buffer last out → roomAtEnd (limitOf (length t)) ≤ length buffer → Prints before out
   all-printed {t} {hold} {r} p e {buffer} {out} w h =
       let y = between (heldIn hold (r .held)) (r .line) t in
       let l = p .takes .leads e in
@@ -82,6 +86,6 @@ module _ (before : List ℕ) {begun : List ℕ} (b : begun ≡ bytesAfter before
       }
 
 -- 01, The sheet: where a program has printed, it wrote in all what 01 says of the text that it read
-pub prints-so : {before out : List ℕ} (p : Prints before out) → length before ≡ tableLength 512 → length (pieces (p .text)) < 2 ^ 64
-    → p .said ++ take (length (finished (p .last))) out ≡ printed (p .text)
-prints-so {before} p long few = rw (p .ended) (whole before (p .text) (p .said) (p .last) long few (p .calls))
+pub prints-so : {before out : List ℕ} (p : Prints before out) → 0 < limitOf (length before) → length (pieces (p .text)) < 2 ^ 64
+    → p .said ++ take (length (finished (p .last))) out ≡ printed (limitOf (length before)) (p .text)
+prints-so {before} p meant few = rw (p .ended) (whole before (p .text) (p .said) (p .last) meant few (p .calls))

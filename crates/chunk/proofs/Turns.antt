@@ -14,24 +14,25 @@ use Rattle.feed.specs.declared.Fed.{Fed}
 use Rattle.feed.proofs.Advancing.{Took, took}
 use Rattle.chunk.specs.Promises.{Takes}
 
--- x is the state before the chunk, `before` the output buffer as it was; the others are as they are at a turn
-pub record Turn (x : Between) (chunk before t hold out : List ℕ) (used kept number : ℕ) : Type 0 where
+-- x is the state before the chunk, `first` and `before` the table and the output buffer as they were; the others are as they are at a turn
+pub record Turn (x : Between) (chunk first before t hold out : List ℕ) (used kept number : ℕ) : Type 0 where
   pub said : List ℕ
   pub onward : (rest : List ℕ) {z : Between} {last : List ℕ} → Calls (between (heldIn hold kept) number t) (drop used chunk ++ rest) z last
       → Calls x (chunk ++ rest) z (said ++ last)
   pub inside : used ≤ length chunk
   pub same : length out ≡ length before
   pub good : sound t ≡ true
+  pub table : length t ≡ length first
   pub long : length hold ≡ holdLength
   pub few : kept ≤ holdLength
 
 pub first-turn : (chunk t hold out : List ℕ) (held line : ℕ) → sound t ≡ true → length hold ≡ holdLength → held ≤ holdLength
-    → Turn (between (heldIn hold held) line t) chunk out t hold out 0 held line
+    → Turn (between (heldIn hold held) line t) chunk t out t hold out 0 held line
 first-turn chunk t hold out held line good long few =
-    record { said = []; onward = λ rest c. c; inside = omega arith; same = refl; good = good; long = long; few = few }
+    record { said = []; onward = λ rest c. c; inside = omega arith; same = refl; good = good; table = refl; long = long; few = few }
 
 -- the chunk is used up
-pub all-taken : {x : Between} {chunk before t hold out : List ℕ} {used kept number : ℕ} → Turn x chunk before t hold out used kept number → length chunk ≤ used
+pub all-taken : {x : Between} {chunk first before t hold out : List ℕ} {used kept number : ℕ} → Turn x chunk first before t hold out used kept number → length chunk ≤ used
     → Takes x chunk (record { held = kept; line = number; good = true }) t hold
 all-taken {chunk} turn h =
     record {
@@ -48,7 +49,7 @@ stopped x chunk few long good = record { leads = λ e. absurd (false≢true e); 
 
 -- ---- the next step, over what is left of the chunk
 
-module _ {x : Between} {chunk before t hold out : List ℕ} {used kept number : ℕ} (turn : Turn x chunk before t hold out used kept number)
+module _ {x : Between} {chunk first before t hold out : List ℕ} {used kept number : ℕ} (turn : Turn x chunk first before t hold out used kept number)
     (more : used < length chunk) (room : longest ≤ length before)
     {r : Fed} {t₁ hold₁ out₁ : List ℕ}
     (f : Fits (stepFrom (length out) (between (heldIn hold kept) number t) (take (length chunk - used) (drop used chunk))) out r t₁ hold₁ out₁) where
@@ -76,14 +77,15 @@ module _ {x : Between} {chunk before t hold out : List ℕ} {used kept number : 
       let here : Calls (keptIn step) (drop (usedOf step) left ++ rest) z last = rw (left-over, ← f .kept) c in
       subst (λ l. Calls y (l ++ rest) z (textIn step ++ last)) all-left (call left rest (length out) here)
 
-  pub next-turn : sound t₁ ≡ true → Turn x chunk before t₁ hold₁ out₁ (used + r .used) (r .held) (r .line)
-  next-turn good =
+  pub next-turn : sound t₁ ≡ true → length t₁ ≡ length t → Turn x chunk first before t₁ hold₁ out₁ (used + r .used) (r .held) (r .line)
+  next-turn good same =
       record {
         said = turn .said ++ textIn step;
         onward = λ rest {z} {last} c. rw (append-assoc (turn .said) (textIn step) last) (turn .onward rest (goes-on rest c));
         inside = one-step .inside;
         same = one-step .same ∙ turn .same;
         good = good;
+        table = same ∙ turn .table;
         long = f .long;
         few = f .few;
       }

@@ -1,10 +1,10 @@
 // The sheet program's run over chunks: the start, all of a chunk, the end. What is written out is decided in `feed`; here bytes are only moved.
-ghost use Prim.Native.Nat.{_≤_};
+ghost use Prim.Native.Nat.{_≤_, _<_};
 ghost use mathlib.Core.Path.{_≡_};
 ghost use mathlib.Core.Bool.{true};
 ghost use mathlib.Core.List.{[]};
 ghost use lib.ListN.{length};
-ghost use Rattle.table.specs.Tables.{sound, tableLength};
+ghost use Rattle.table.specs.Tables.{leastLimit, limitOf, sound, tableLength};
 ghost use Rattle.book.specs.Bytes.{bytesAfter};
 ghost use Rattle.feed.specs.Steps.{between, heldIn, holdLength, longest, roomAtEnd};
 ghost use Rattle.chunk.specs.Promises.{Ends, Takes};
@@ -16,9 +16,16 @@ pub struct Kept {
     pub good: bool,
 }
 
+// Where the sheet program keeps its table, of the least limit. The `ensures` is what lending the array needs.
+pub fn table_buffer() -> [u8; table::TABLE]
+    ensures { λ r. ⌜ tableLength leastLimit ≡ length r ⌝ }
+{
+    [0; table::TABLE]
+}
+
 // The table before the first chunk.
 pub fn begin(t: &mut [u8])
-    requires { ⌜ length (now t) ≡ tableLength 512 ⌝ }
+    requires { ⌜ 0 < limitOf (length (now t)) ⌝ }
     ensures { λ _. ⌜ now (t .exit) ≡ bytesAfter (now (t .entry)) [] ⌝ }
 {
     table::make_empty(t);
@@ -67,7 +74,7 @@ pub fn end(t: &mut [u8], hold: &[u8], held: usize, line: u64, out: &mut [u8]) ->
     requires { ⌜ sound (now t) ≡ true ⌝ }
     requires { ⌜ length (now hold) ≡ holdLength ⌝ }
     requires { ⌜ held ≤ holdLength ⌝ }
-    requires { ⌜ roomAtEnd ≤ length (now out) ⌝ }
+    requires { ⌜ roomAtEnd (limitOf (length (now t))) ≤ length (now out) ⌝ }
     ensures { λ _. ⌜ Ends (between (heldIn (now (hold .entry)) held) line (now (t .entry))) (now (out .entry)) (now (t .exit)) (now (out .exit)) ⌝ }
 {
     let n = feed::finish(t, hold, held, line, out);

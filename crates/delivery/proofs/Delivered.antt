@@ -3,12 +3,12 @@ use Prim.Native.Nat.{ℕ, _+_, _≤_, _<_}
 use native.Mathlib.Nat.{zero-add}
 use native.Mathlib.Omega.{arith}
 use mathlib.Core.Path.{_≡_, refl, sym, ap, ap₂, subst, subst₂, _∙_}
-use mathlib.Core.Bool.{Bool, true}
+use mathlib.Core.Bool.{true}
 use mathlib.Core.List.{List, [], _∷_, _++_, append-assoc, append-nil}
 use borrow.Author.Tests.{le-ltb}
 use lib.ListN.{length, drop}
-use lib.Seq.{sets, sets-eq}
-use Rattle.refusal.specs.Answer.{Answer, value, refused}
+use lib.Seq.{sets-eq}
+use Rattle.refusal.specs.Answer.{Answer, value}
 use Rattle.layout.specs.Line.{read}
 use Rattle.day.specs.Demand3.{IsAnswer, IsSheet, AddsUp, joined, tableAfter, answerTo, historyAfter}
 use Rattle.day.specs.History.{History, ordersOf}
@@ -18,18 +18,20 @@ use Rattle.day.specs.Tables.{Table, empty}
 use Rattle.day.specs.Walk.{sheetOf}
 use Rattle.day.proofs.Demand3.{demand3}
 use Rattle.table.specs.Promises.{Makes}
-use Rattle.table.specs.Tables.{tableLength, tableIn, sound}
+use Rattle.table.specs.Tables.{limitOf, tableIn, sound, madeFrom}
 use Rattle.table.specs.declared.Made.{Made}
+use Rattle.table.proofs.Making.{taken}
 use Rattle.book.specs.Bytes.{bookBytes, bookAnswer, bytesAfter}
 use Rattle.book.specs.Promises.{Books, bookingOf}
 use Rattle.book.specs.declared.Booking.{Booking}
+use Rattle.book.proofs.Lengths.{day-length}
 use Rattle.book.proofs.Reached.{reached-bytes}
 use Rattle.sheet.specs.Promises.{Sheets, writingOf, sheetAnswer, sheetFrom, textOf}
-use Rattle.sheet.specs.Texts.{textOfSheet, sheetText, longestSheet}
+use Rattle.sheet.specs.Texts.{sheetText}
 use Rattle.sheet.specs.declared.Writing.{Writing}
 use Rattle.sheet.proofs.Bound.{sheet-bound}
 use Rattle.feed.specs.Printed.{report, printedFrom}
-use Rattle.delivery.specs.Delivered.{Call, Day, begun, booked, acceptedIn, inOrder, refusalLines, Shows, Delivered, Delivery}
+use Rattle.delivery.specs.Delivered.{Call, Day, begun, booked, acceptedIn, inOrder, refusalLines, Shows, Delivery}
 
 -- the pieces, latest first
 abbrev piecesIn : List Call → List (List ℕ)
@@ -51,12 +53,15 @@ module _ (s : List ℕ) (good : sound s ≡ true) (out : List ℕ) (room : lengt
         ∙ ap (λ (n : ℕ). textOf s ++ drop n out) (zero-add (length (textOf s))),
   )
 
-module _ (before : List ℕ) (long : length before ≡ tableLength 512) where
+module _ (before : List ℕ) (meant : 0 < limitOf (length before)) where
+  abbrev limit : ℕ
+  limit = limitOf (length before)
+
   abbrev day : List Call → Table
-  day calls = tableAfter (book 512) (piecesIn calls)
+  day calls = tableAfter (book limit) (piecesIn calls)
 
   made : {x : Made} {table : List ℕ} → Makes before x table → table ≡ bytesAfter before []
-  made m = m .out ∙ rw long
+  made m = m .out ∙ ap (λ (a : Answer (Unit {0})). madeFrom a before) (taken before meant)
 
   -- ---- the bytes, the answers and the accepted lines of a day
 
@@ -65,65 +70,68 @@ module _ (before : List ℕ) (long : length before ≡ tableLength 512) where
   same-bytes (booked c d b) = b .out ∙ ap (λ (s : List ℕ). bookBytes s (c .piece)) (same-bytes d)
 
   same-answer : {calls : List Call} {table : List ℕ} → Day before calls table → (p : List ℕ) (x : Booking) (after : List ℕ) → Books table p x after
-      → bookingOf x ≡ answerTo (book 512) (piecesIn calls) p
+      → bookingOf x ≡ answerTo (book limit) (piecesIn calls) p
   same-answer {calls} d p x after b =
-      b .said ∙ ap (λ (s : List ℕ). bookAnswer s p) (same-bytes d) ∙ reached-bytes before long (piecesIn calls) .2 p
+      b .said ∙ ap (λ (s : List ℕ). bookAnswer s p) (same-bytes d) ∙ reached-bytes before meant (piecesIn calls) .2 p
 
-  same-history : {calls : List Call} {table : List ℕ} → Day before calls table → acceptedIn calls ≡ historyAfter (book 512) (piecesIn calls)
+  same-history : {calls : List Call} {table : List ℕ} → Day before calls table → acceptedIn calls ≡ historyAfter (book limit) (piecesIn calls)
   same-history (begun m) = refl
   same-history (booked {after = after} c d b) =
       ap₂ (λ (a : Answer (Unit {0})) (h : History). joined a (read (c .piece)) h) (same-answer d (c .piece) (c .answer) after b) (same-history d)
 
   same-table : {calls : List Call} {table : List ℕ} → Day before calls table → tableIn table ≡ day calls
-  same-table {calls} d = ap tableIn (same-bytes d) ∙ reached-bytes before long (piecesIn calls) .0
+  same-table {calls} d = ap tableIn (same-bytes d) ∙ reached-bytes before meant (piecesIn calls) .0
 
   still-sound : {calls : List Call} {table : List ℕ} → Day before calls table → sound table ≡ true
-  still-sound {calls} d = ap sound (same-bytes d) ∙ reached-bytes before long (piecesIn calls) .1
+  still-sound {calls} d = ap sound (same-bytes d) ∙ reached-bytes before meant (piecesIn calls) .1
+
+  same-limit : {calls : List Call} {table : List ℕ} → Day before calls table → limitOf (length table) ≡ limit
+  same-limit {calls} d = ap limitOf (ap length (same-bytes d) ∙ day-length before (piecesIn calls))
 
   -- ---- what the program prints
 
   printed-so : {calls : List Call} {table : List ℕ} → Day before calls table → (rest : List (List ℕ))
-      → printedFrom 1 empty (inOrder calls ++ rest) ≡ refusalLines calls ++ printedFrom (length calls + 1) (day calls) rest
+      → printedFrom limit 1 empty (inOrder calls ++ rest) ≡ refusalLines calls ++ printedFrom limit (length calls + 1) (day calls) rest
   printed-so (begun m) rest = refl
   printed-so (booked {calls = calls} {after = after} c d b) rest =
       let n = length calls in
       let said = refusalLines calls in
-      let more = printedFrom (n + 1 + 1) (day (c ∷ calls)) rest in
+      let more = printedFrom limit (n + 1 + 1) (day (c ∷ calls)) rest in
       let number : n + 1 + 1 ≡ length (c ∷ calls) + 1 = omega arith in
-      ap (printedFrom 1 empty) (append-assoc (inOrder calls) (c .piece ∷ []) rest)
+      ap (printedFrom limit 1 empty) (append-assoc (inOrder calls) (c .piece ∷ []) rest)
       ∙ printed-so d (c .piece ∷ rest)
       ∙ ap (λ (a : Answer (Unit {0})). said ++ (report (n + 1) a ++ more)) (sym (same-answer d (c .piece) (c .answer) after b))
       ∙ sym (append-assoc said (report (n + 1) (bookingOf (c .answer))) more)
-      ∙ ap (λ (k : ℕ). (said ++ report (n + 1) (bookingOf (c .answer))) ++ printedFrom k (day (c ∷ calls)) rest) number
+      ∙ ap (λ (k : ℕ). (said ++ report (n + 1) (bookingOf (c .answer))) ++ printedFrom limit k (day (c ∷ calls)) rest) number
 
   -- ---- the sheet
 
-  shows : {calls : List Call} {table : List ℕ} → Day before calls table → Shows (acceptedIn calls) table
+  shows : {calls : List Call} {table : List ℕ} → Day before calls table → Shows limit (acceptedIn calls) table
   shows {calls} {table} d =
       let ps = piecesIn calls in
       let h = same-history d in
       let t = same-table d in
       record {
         sheet = sheetOf (tableIn table);
-        so = subst₂ (λ (a : History) (u : Table). IsSheet a (sheetOf u)) (sym h) (sym t) (demand3 512 .sheet-so ps);
-        only-so = λ s x. demand3 512 .only-so ps s (subst (λ (a : History). IsSheet a s) h x) ∙ ap sheetOf (sym t);
-        each-once = subst₂ (λ (a : History) (u : Table). (i : ℕ) → i < length (ordersOf a) → shown i (membersOf (sheetOf u .rows)) ≡ 1) (sym h) (sym t) (demand3 512 .each-once ps);
-        no-other = subst₂ (λ (a : History) (u : Table). (i : ℕ) → length (ordersOf a) ≤ i → shown i (membersOf (sheetOf u .rows)) ≡ 0) (sym h) (sym t) (demand3 512 .no-other ps);
-        adds-up = subst (λ (u : Table). Each AddsUp (sheetOf u .rows)) (sym t) (demand3 512 .adds-up ps);
+        so = subst₂ (λ (a : History) (u : Table). IsSheet a (sheetOf u)) (sym h) (sym t) (demand3 limit .sheet-so ps);
+        only-so = λ s x. demand3 limit .only-so ps s (subst (λ (a : History). IsSheet a s) h x) ∙ ap sheetOf (sym t);
+        each-once = subst₂ (λ (a : History) (u : Table). (i : ℕ) → i < length (ordersOf a) → shown i (membersOf (sheetOf u .rows)) ≡ 1) (sym h) (sym t) (demand3 limit .each-once ps);
+        no-other = subst₂ (λ (a : History) (u : Table). (i : ℕ) → length (ordersOf a) ≤ i → shown i (membersOf (sheetOf u .rows)) ≡ 0) (sym h) (sym t) (demand3 limit .no-other ps);
+        adds-up = subst (λ (u : Table). Each AddsUp (sheetOf u .rows)) (sym t) (demand3 limit .adds-up ps);
         written = λ out x after p room. sheet-written table (still-sound d) out room p;
-        room = sheet-bound table (still-sound d);
+        room = rw (same-limit d) at (sheet-bound table (still-sound d));
       }
 
 pub delivery : Delivery
 unfolding shows
-delivery before long =
+delivery before meant =
     record {
       answers = λ {calls} d p x after b.
-          subst₂ (λ (h : History) (a : Answer (Unit {0})). IsAnswer 512 h p a) (sym (same-history before long d)) (sym (same-answer before long d p x after b))
-          (demand3 512 .answers (piecesIn calls) p);
-      shows = shows before long;
+          subst₂ (λ (h : History) (a : Answer (Unit {0})). IsAnswer (limitOf (length before)) h p a) (sym (same-history before meant d)) (sym (same-answer before meant d p x after b))
+          (demand3 (limitOf (length before)) .answers (piecesIn calls) p);
+      shows = shows before meant;
       prints = λ {calls} d text e.
-          ap (printedFrom 1 empty) (sym (append-nil (inOrder calls) ∙ e))
-          ∙ printed-so before long d []
-          ∙ ap (λ (t : Table). refusalLines calls ++ sheetText t) (sym (same-table before long d));
+          ap (printedFrom (limitOf (length before)) 1 empty) (sym (append-nil (inOrder calls) ∙ e))
+          ∙ printed-so before meant d []
+          ∙ ap (λ (t : Table). refusalLines calls ++ sheetText t) (sym (same-table before meant d));
     }

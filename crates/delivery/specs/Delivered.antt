@@ -10,7 +10,7 @@ use Rattle.day.specs.Demand3.{IsAnswer, IsSheet, AddsUp, joined}
 use Rattle.day.specs.History.{History, ordersOf}
 use Rattle.day.specs.Listing.{Sheet, membersOf, Each, shown}
 use Rattle.table.specs.Promises.{Makes}
-use Rattle.table.specs.Tables.{tableLength}
+use Rattle.table.specs.Tables.{limitOf}
 use Rattle.table.specs.declared.Made.{Made}
 use Rattle.book.specs.Promises.{Books, bookingOf}
 use Rattle.book.specs.declared.Booking.{Booking}
@@ -47,8 +47,8 @@ abbrev pub refusalLines : List Call → List ℕ
 refusalLines [] = []
 refusalLines (c ∷ calls) = refusalLines calls ++ report (length calls + 1) (bookingOf (c .answer))
 
--- the sheet of the accepted lines h, as it is written from the bytes of a table
-pub record Shows (h : History) (table : List ℕ) : Type 0 where
+-- the sheet of the accepted lines h, as it is written from the bytes of a table of a limit
+pub record Shows (limit : ℕ) (h : History) (table : List ℕ) : Type 0 where
   -- there is one, and no other: N and F counted, families in order, each row's key and figures as the accepted lines say
   pub sheet : Sheet
   pub so : IsSheet h sheet
@@ -62,18 +62,18 @@ pub record Shows (h : History) (table : List ℕ) : Type 0 where
   pub written : (out : List ℕ) (x : Writing) (after : List ℕ) → Sheets table out x after → length (textOfSheet sheet) ≤ length out
       → (writingOf x ≡ value (length (textOfSheet sheet))) × (after ≡ textOfSheet sheet ++ drop (length (textOfSheet sheet)) out)
   -- and there is room in every buffer of this length
-  pub room : length (textOfSheet sheet) ≤ longestSheet
+  pub room : length (textOfSheet sheet) ≤ longestSheet limit
 
--- whatever the buffer of a table's length held before
+-- whatever the buffer held before; the limit is that of its length
 pub record Delivered (before : List ℕ) : Type 0 where
   -- "A line is accepted exactly when no refusal of the build paper applies to it after the lines accepted before it.": each answer of each such day
   pub answers : {calls : List Call} {table : List ℕ} → Day before calls table → (p : List ℕ) (x : Booking) (after : List ℕ) → Books table p x after
-      → IsAnswer 512 (acceptedIn calls) p (bookingOf x)
+      → IsAnswer (limitOf (length before)) (acceptedIn calls) p (bookingOf x)
   -- "the sheet shows every accepted order once and no other .. Every figure equals what the accepted lines naming that order say"
-  pub shows : {calls : List Call} {table : List ℕ} → Day before calls table → Shows (acceptedIn calls) table
+  pub shows : {calls : List Call} {table : List ℕ} → Day before calls table → Shows (limitOf (length before)) (acceptedIn calls) table
   -- what the program prints for a text is the refusal lines of its pieces and then the text of that sheet
   pub prints : {calls : List Call} {table : List ℕ} (day : Day before calls table) (text : List ℕ) → inOrder calls ≡ pieces text
-      → printed text ≡ refusalLines calls ++ textOfSheet (shows day .sheet)
+      → printed (limitOf (length before)) text ≡ refusalLines calls ++ textOfSheet (shows day .sheet)
 
 abbrev pub Delivery : Type 0
-Delivery = (before : List ℕ) → length before ≡ tableLength 512 → Delivered before
+Delivery = (before : List ℕ) → 0 < limitOf (length before) → Delivered before

@@ -32,7 +32,7 @@ use Rattle.day.specs.Tables.{Table, Booked}
 use Rattle.day.proofs.Chain.{first-number}
 use Rattle.table.specs.Entries.{placeOr8, lookUpAnswer, copyAnswer, copiedFrom}
 use Rattle.slot.specs.Slots.{keyIn}
-use Rattle.table.specs.Tables.{tableLength, limitOf, countIn, tableIn, sound, makeAnswer, madeFrom}
+use Rattle.table.specs.Tables.{tableLength, leastLimit, limitOf, countIn, tableIn, sound, makeAnswer, madeFrom}
 use Rattle.book.specs.Bytes.{bookAnswer}
 use Rattle.book.proofs.Refuted.{refusal-stays}
 use Rattle.sheet.specs.Promises.{textOf, sheetAnswer, sheetFrom}
@@ -127,8 +127,8 @@ clock-told ms = both Told (lawful timestamp 8 (num ms)) (given _) (field 1 refl)
 
 make-told : (before : List ℕ) → Told (makeAnswer before)
 make-told before =
-    both Told (ltb (length before) (tableLength 512)) (other NoRoom refl)
-    (both Told (eqb (length before) (tableLength 512)) (given tt) (other Damaged refl))
+    both Told (ltb (length before) (tableLength leastLimit)) (other NoRoom refl)
+    (both Told (ltb 0 (limitOf (length before))) (given tt) (other Damaged refl))
 
 place-told : (i : ℕ) → Told (placeOr8 i)
 place-told zero = other UnknownKey refl

@@ -1,23 +1,17 @@
 // The sheet program: reads standard input to its end, prints each refused piece as it comes, and at the end the sheet. What is printed is decided
 // in `feed`, and written out in `chunk`.
-ghost use Prim.Native.Nat.{_≤_};
+ghost use Prim.Native.Nat.{_≤_, _<_};
 ghost use mathlib.Core.Path.{_≡_};
 ghost use mathlib.Core.Bool.{true};
 ghost use mathlib.Core.List.{[]};
 ghost use lib.ListN.{length};
-ghost use Rattle.table.specs.Tables.{sound, tableLength};
-ghost use Rattle.feed.specs.Steps.{between, holdLength, roomAtEnd};
+ghost use Rattle.table.specs.Tables.{limitOf, sound};
+ghost use Rattle.feed.specs.Steps.{between, holdLength, longest, roomAtEnd};
 ghost use Rattle.chunk.specs.Promises.{Prints, Reads};
 use chunk::Kept;
 
-fn table_buffer() -> [u8; table::TABLE]
-    ensures { λ r. ⌜ tableLength 512 ≡ length r ⌝ }
-{
-    [0; table::TABLE]
-}
-
 fn main() {
-    let mut table = table_buffer();
+    let mut table = chunk::table_buffer();
     let mut hold = [0u8; feed::HOLD];
     let mut input = io::large_buffer();
     let mut out = io::large_buffer();
@@ -26,9 +20,9 @@ fn main() {
 
 // Whether all is printed. If not, nothing more is written than the line that says why.
 fn run(t: &mut [u8], hold: &mut [u8], input: &mut [u8], out: &mut [u8]) -> bool
-    requires { ⌜ length (now t) ≡ tableLength 512 ⌝ }
+    requires { ⌜ 0 < limitOf (length (now t)) ⌝ }
     requires { ⌜ length (now hold) ≡ holdLength ⌝ }
-    requires { ⌜ roomAtEnd ≤ length (now out) ⌝ }
+    requires { ⌜ roomAtEnd (limitOf (length (now t))) ≤ length (now out) ⌝ }
     ensures { λ r. ⌜ (r ≡ true → Prints (now (t .entry)) (now (out .exit))) ⌝ }
 {
     chunk::begin(t);
@@ -48,7 +42,7 @@ fn run(t: &mut [u8], hold: &mut [u8], input: &mut [u8], out: &mut [u8]) -> bool
 fn read_all(t: &mut [u8], hold: &mut [u8], input: &mut [u8], out: &mut [u8]) -> Kept
     requires { ⌜ sound (now t) ≡ true ⌝ }
     requires { ⌜ length (now hold) ≡ holdLength ⌝ }
-    requires { ⌜ roomAtEnd ≤ length (now out) ⌝ }
+    requires { ⌜ longest ≤ length (now out) ⌝ }
     ensures { λ r. ⌜ Reads (between [] 1 (now (t .entry))) r (now (t .exit)) (now (hold .exit)) ⌝ }
 {
     let mut held = 0;

@@ -10,10 +10,10 @@ use lib.ListN.{length}
 use Rattle.refusal.specs.Answer.{Answer}
 use Rattle.day.specs.Machine.{book}
 use Rattle.day.specs.Tables.{Table}
-use Rattle.table.specs.Tables.{tableIn, sound}
+use Rattle.table.specs.Tables.{limitOf, tableIn, sound}
 use Rattle.book.specs.Bytes.{bookBytes}
-use Rattle.book.proofs.Limited.{says-answer, says-table}
-use Rattle.book.proofs.Machine.{booked-sound}
+use Rattle.book.proofs.Lengths.{booked-length}
+use Rattle.book.proofs.Machine.{booked-answer, booked-table, booked-sound}
 use Rattle.feed.specs.Printed.{report, printedFrom}
 use Rattle.feed.specs.Steps.{nextLine}
 use Rattle.feed.proofs.Remaining.{leftFrom}
@@ -27,9 +27,10 @@ pub line-last : (l : ℕ) → 2 ^ 64 - 1 ≤ l → l ≡ nextLine l
 line-last l h = rw (le-ltb l (2 ^ 64 - 1) h)
 
 -- where a piece is left, the number goes up by 1
-next-is : (l : ℕ) (t : Table) (ps : List (List ℕ)) → l + (1 + length ps) ≤ 2 ^ 64 → printedFrom (nextLine l) t ps ≡ printedFrom (l + 1) t ps
-next-is l t [] h = refl
-next-is l t (p ∷ ps) h = ap (λ n. printedFrom n t (p ∷ ps)) (sym (line-up l (omega arith)))
+next-is : (limit l : ℕ) (t : Table) (ps : List (List ℕ)) → l + (1 + length ps) ≤ 2 ^ 64
+    → printedFrom limit (nextLine l) t ps ≡ printedFrom limit (l + 1) t ps
+next-is limit l t [] h = refl
+next-is limit l t (p ∷ ps) h = ap (λ n. printedFrom limit n t (p ∷ ps)) (sym (line-up l (omega arith)))
 
 next-most : (l : ℕ) → nextLine l ≤ l + 1
 next-most l = go (ltb l (2 ^ 64 - 1))
@@ -40,12 +41,15 @@ next-most l = go (ltb l (2 ^ 64 - 1))
 
 -- ---- the pieces left
 
-pub left-printed : (l : ℕ) (s : List ℕ) (ps : List (List ℕ)) → sound s ≡ true → l + length ps ≤ 2 ^ 64
-    → leftFrom l s ps ≡ printedFrom l (tableIn s) ps
-left-printed l s [] e h = refl
-left-printed l s (p ∷ ps) e h =
+pub left-printed : (limit l : ℕ) (s : List ℕ) (ps : List (List ℕ)) → limitOf (length s) ≡ limit → sound s ≡ true → l + length ps ≤ 2 ^ 64
+    → leftFrom l s ps ≡ printedFrom limit l (tableIn s) ps
+left-printed limit l s [] q e h = refl
+left-printed limit l s (p ∷ ps) q e h =
     let after = bookBytes s p in
-    let rest = left-printed (nextLine l) after ps (booked-sound s p e) (omega (arith, next-most l)) in
-    ap (λ (a : Answer (Unit {0})). report l a ++ leftFrom (nextLine l) after ps) (says-answer s p e)
-    ∙ ap (λ q. report l (book 512 (tableIn s) p .answer) ++ q)
-    (rest ∙ next-is l (tableIn after) ps (omega arith) ∙ ap (λ (t : Table). printedFrom (l + 1) t ps) (says-table s p e))
+    let same = ap limitOf (booked-length s p) ∙ q in
+    let rest = left-printed limit (nextLine l) after ps same (booked-sound s p e) (omega (arith, next-most l)) in
+    let answer = booked-answer s p e ∙ ap (λ n. book n (tableIn s) p .answer) q in
+    let table = booked-table s p e ∙ ap (λ n. book n (tableIn s) p .table) q in
+    ap (λ (a : Answer (Unit {0})). report l a ++ leftFrom (nextLine l) after ps) answer
+    ∙ ap (λ t. report l (book limit (tableIn s) p .answer) ++ t)
+    (rest ∙ next-is limit l (tableIn after) ps (omega arith) ∙ ap (λ (t : Table). printedFrom limit (l + 1) t ps) table)

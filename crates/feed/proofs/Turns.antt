@@ -12,6 +12,7 @@ use lib.Seq.{length-sets, length-take-le}
 use Rattle.table.specs.Tables.{sound}
 use Rattle.book.specs.Bytes.{bookBytes, bookAnswer}
 use Rattle.run.proofs.Scan.{at-next}
+use Rattle.book.proofs.Lengths.{booked-length}
 use Rattle.book.proofs.Machine.{booked-sound}
 use Rattle.row.specs.Writes.{Wrote}
 use Rattle.sheet.proofs.Joining.{lent, back, one-text}
@@ -28,14 +29,15 @@ use Rattle.feed.proofs.Saying.{Says}
 abbrev ahead : (room : ℕ) (hold : List ℕ) (kept number : ℕ) (t rest : List ℕ) → Step
 ahead room hold kept number t rest = stepOver room (heldIn hold kept) number t (pieces rest)
 
--- x is the whole step; `before` is the output buffer as it was, the others are as they are at a turn
-pub record Turn (x : Step) (chunk before t hold out : List ℕ) (used wrote kept number : ℕ) : Type 0 where
+-- x is the whole step; `first` and `before` are the table and the output buffer as they were, the others are as they are at a turn
+pub record Turn (x : Step) (chunk first before t hold out : List ℕ) (used wrote kept number : ℕ) : Type 0 where
   pub text : List ℕ
   pub whole : x ≡ after used text (ahead (length before - wrote) hold kept number t (drop used chunk))
   pub said : Wrote text before out wrote
   pub inside : used ≤ length chunk
   pub room : wrote ≤ length before
   pub good : sound t ≡ true
+  pub table : length t ≡ length first
   pub long : length hold ≡ holdLength
   pub few : kept ≤ holdLength
 
@@ -53,7 +55,7 @@ after-after n m x y (step used text kept) = rw (add-assoc n m used, append-assoc
 -- ---- the first turn
 
 pub first-turn : (chunk t hold out : List ℕ) (held line : ℕ) → sound t ≡ true → length hold ≡ holdLength → held ≤ holdLength
-    → Turn (stepFrom (length out) (between (heldIn hold held) line t) chunk) chunk out t hold out 0 0 held line
+    → Turn (stepFrom (length out) (between (heldIn hold held) line t) chunk) chunk t out t hold out 0 0 held line
 first-turn chunk t hold out held line good long few =
     record {
       text = [];
@@ -62,6 +64,7 @@ first-turn chunk t hold out held line good long few =
       inside = omega arith;
       room = omega arith;
       good = good;
+      table = refl;
       long = long;
       few = few;
     }
@@ -101,7 +104,7 @@ fits : {x : Step} {before t hold out : List ℕ} {u w h l : ℕ} (y : List ℕ) 
 fits y k e w same long few =
     rw e (record { used = refl; wrote = w .long; written = w .out; kept = same; long = long; few = few })
 
-module _ {x : Step} {chunk before t hold out : List ℕ} {used wrote kept number : ℕ} (turn : Turn x chunk before t hold out used wrote kept number) where
+module _ {x : Step} {chunk first before t hold out : List ℕ} {used wrote kept number : ℕ} (turn : Turn x chunk first before t hold out used wrote kept number) where
   abbrev room : ℕ
   room = length before - wrote
 
@@ -149,7 +152,7 @@ module _ {x : Step} {chunk before t hold out : List ℕ} {used wrote kept number
 
       -- it ends, and is booked
       pub next-turn : longest ≤ length out - wrote → {last t₁ hold₁ : List ℕ} {r l : ℕ} → Says number t (begun ++ p) (lent wrote out) last r t₁
-          → length hold₁ ≡ holdLength → l ≡ nextLine number → Turn x chunk before t₁ hold₁ (back wrote out last) end (wrote + r) 0 l
+          → length hold₁ ≡ holdLength → l ≡ nextLine number → Turn x chunk first before t₁ hold₁ (back wrote out last) end (wrote + r) 0 l
       next-turn h {last} {t₁} {hold₁} {r} {l} (w, f) long n =
           let said = report number (bookAnswer t (begun ++ p)) in
           let rest = stepOver (room - length said) [] (nextLine number) (bookBytes t (begun ++ p)) (pieces (drop end chunk)) in
@@ -164,6 +167,7 @@ module _ {x : Step} {chunk before t hold out : List ℕ} {used wrote kept number
             inside = piece-bounds chunk used end more e .1;
             room = room-said h (begun ++ p) w;
             good = rw f (booked-sound t (begun ++ p) (turn .good));
+            table = ap length f ∙ booked-length t (begun ++ p) ∙ turn .table;
             long = long;
             few = omega arith;
           }

@@ -3,9 +3,12 @@ use Prim.Native.Nat.{ℕ}
 use native.Mathlib.Omega.{arith}
 use mathlib.Core.Path.{_≡_, refl, sym, ap, _∙_}
 use mathlib.Core.List.{List, [], _++_, append-assoc}
+use lib.ListN.{length}
 use Rattle.day.specs.Tables.{Table}
-use Rattle.table.proofs.Making.{empty-sound}
+use Rattle.table.specs.Tables.{limitOf}
+use Rattle.table.proofs.Making.{empty-holds, empty-sound}
 use Rattle.book.specs.Bytes.{bytesAfter}
+use Rattle.book.proofs.Lengths.{day-length}
 use Rattle.piece.specs.Pieces.{pieces}
 use Rattle.feed.specs.Printed.{printedFrom}
 use Rattle.feed.specs.Steps.{Between, textIn, stepFrom, finished}
@@ -22,7 +25,8 @@ all-calls (call {x} {y} {out} chunk rest room c) u =
     append-assoc said out (finished y) ∙ ap (λ q. said ++ q) (all-calls c (g .unbroken)) ∙ sym (g .says rest)
 
 pub whole : Whole
-whole before text out y long few c =
-    let (good, nobody) = empty-sound before long in
-    all-calls c refl ∙ left-printed 1 (bytesAfter before []) (pieces text) good (omega arith)
-    ∙ ap (λ (t : Table). printedFrom 1 t (pieces text)) nobody
+whole before text out y meant few c =
+    let limit = limitOf (length before) in
+    let begun = bytesAfter before [] in
+    all-calls c refl ∙ left-printed limit 1 begun (pieces text) (ap limitOf (day-length before [])) (empty-sound before meant) (omega arith)
+    ∙ ap (λ (t : Table). printedFrom limit 1 t (pieces text)) (empty-holds before meant .says)

@@ -35,11 +35,11 @@ abbrev pub report : ℕ → Answer (Unit {0}) → List ℕ
 report l (value u) = []
 report l (refused r f) = refusalLine l r f
 
--- "books each, .. as it comes .., and at the end the sheet": from a table on, the first piece numbered l
-abbrev pub printedFrom : ℕ → Table → List (List ℕ) → List ℕ
-printedFrom l t [] = sheetText t
-printedFrom l t (p ∷ ps) = report l (book 512 t p .answer) ++ printedFrom (l + 1) (book 512 t p .table) ps
+-- "books each, .. as it comes .., and at the end the sheet": from a table of a limit on, the first piece numbered l
+abbrev pub printedFrom : (limit l : ℕ) → Table → List (List ℕ) → List ℕ
+printedFrom limit l t [] = sheetText t
+printedFrom limit l t (p ∷ ps) = report l (book limit t p .answer) ++ printedFrom limit (l + 1) (book limit t p .table) ps
 
 -- "cuts it into pieces, numbers them from 1"
-abbrev pub printed : List ℕ → List ℕ
-printed text = printedFrom 1 empty (pieces text)
+abbrev pub printed : (limit : ℕ) → List ℕ → List ℕ
+printed limit text = printedFrom limit 1 empty (pieces text)

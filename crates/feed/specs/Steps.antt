@@ -28,9 +28,9 @@ keptOf p = take holdLength p
 abbrev pub longest : ℕ
 longest = 46
 
--- the end of the text: a refusal line for the last piece, and the sheet
-abbrev pub roomAtEnd : ℕ
-roomAtEnd = longest + longestSheet
+-- the end of the text: a refusal line for the last piece, and the sheet of a table of a limit
+abbrev pub roomAtEnd : (limit : ℕ) → ℕ
+roomAtEnd limit = longest + longestSheet limit
 
 -- a number of 64 bits does not grow past the last; `Whole` asks for fewer pieces than that
 abbrev pub nextLine : ℕ → ℕ

@@ -3,7 +3,7 @@ use Prim.Native.Nat.{ℕ, _^_, _<_}
 use mathlib.Core.Path.{_≡_}
 use mathlib.Core.List.{List, [], _++_}
 use lib.ListN.{length, drop}
-use Rattle.table.specs.Tables.{tableLength}
+use Rattle.table.specs.Tables.{limitOf}
 use Rattle.book.specs.Bytes.{bytesAfter}
 use Rattle.piece.specs.Pieces.{pieces}
 use Rattle.feed.specs.Printed.{printed}
@@ -23,5 +23,5 @@ start before = between [] 1 (bytesAfter before [])
 
 abbrev pub Whole : Type 0
 Whole =
-    (before text out : List ℕ) (y : Between) → length before ≡ tableLength 512 → length (pieces text) < 2 ^ 64 → Calls (start before) text y out
-    → out ++ finished y ≡ printed text
+    (before text out : List ℕ) (y : Between) → 0 < limitOf (length before) → length (pieces text) < 2 ^ 64 → Calls (start before) text y out
+    → out ++ finished y ≡ printed (limitOf (length before)) text

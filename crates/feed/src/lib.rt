@@ -3,7 +3,7 @@ ghost use Prim.Native.Nat.{_≤_};
 ghost use mathlib.Core.Path.{_≡_};
 ghost use mathlib.Core.Bool.{true};
 ghost use lib.ListN.{length};
-ghost use Rattle.table.specs.Tables.{sound};
+ghost use Rattle.table.specs.Tables.{limitOf, sound};
 ghost use Rattle.row.specs.Writes.{Wrote};
 ghost use Rattle.sheet.specs.Promises.{textOf};
 ghost use Rattle.sheet.specs.Texts.{longestSheet};
@@ -107,7 +107,7 @@ fn book_last(t: &mut [u8], hold: &[u8], held: usize, line: u64, out: &mut [u8]) 
 // A buffer with room for the longest sheet is never refused.
 fn sheet_of(t: &[u8], out: &mut [u8]) -> usize
     requires { ⌜ sound (now t) ≡ true ⌝ }
-    requires { ⌜ longestSheet ≤ length (now out) ⌝ }
+    requires { ⌜ longestSheet (limitOf (length (now t))) ≤ length (now out) ⌝ }
     ensures { λ r. ⌜ Wrote (textOf (now (t .entry))) (now (out .entry)) (now (out .exit)) r ⌝ }
 {
     let Writing::Done(n) = sheet::write_sound(t, out) else {
@@ -121,7 +121,7 @@ pub fn finish(t: &mut [u8], hold: &[u8], held: usize, line: u64, out: &mut [u8])
     requires { ⌜ sound (now t) ≡ true ⌝ }
     requires { ⌜ length (now hold) ≡ holdLength ⌝ }
     requires { ⌜ held ≤ holdLength ⌝ }
-    requires { ⌜ roomAtEnd ≤ length (now out) ⌝ }
+    requires { ⌜ roomAtEnd (limitOf (length (now t))) ≤ length (now out) ⌝ }
     ensures { λ r. ⌜ Wrote (finished (between (heldIn (now (hold .entry)) held) line (now (t .entry)))) (now (out .entry)) (now (out .exit)) r ⌝ }
     ensures { λ _. ⌜ now (t .exit) ≡ lastTable (between (heldIn (now (hold .entry)) held) line (now (t .entry))) ⌝ }
 {

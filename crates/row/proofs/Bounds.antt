@@ -1,24 +1,20 @@
--- How long the heading and a row can be: 24 and 78 bytes, for at most 512 orders whose figures have at most six digits.
+-- How long the heading and a row can be, by the limit of the table, for orders whose figures have at most six digits.
 use Prim.Native.Nat.{ℕ, _≤_}
 use native.Mathlib.Omega.{arith}
 use mathlib.Core.Path.{_≡_}
 use lib.ListN.{length}
 use Rattle.order.specs.declared.Figures.{Figures}
 use Rattle.order.specs.declared.Order.{Order}
-use Rattle.row.specs.Texts.{decimal, figuresText, heading, orderText}
-use Rattle.row.proofs.Decimals.{decimal-length}
+use Rattle.row.specs.Texts.{decimal, figuresText, heading, orderText, longestHeading, longestRow}
+use Rattle.row.proofs.Decimals.{decimal-length, decimal-grows}
 use Rattle.row.proofs.Puts.{heading-length, rank-length, traded-length, figures-length, names-length, row-length}
 use Rattle.row.proofs.Trimming.{trimmed-most}
-
--- a family, a place in it, or a count of them
-pub place-bound : (n : ℕ) → n ≤ 512 → length (decimal n) ≤ 3
-place-bound n h = decimal-length n 3 (omega arith) (omega arith) .1
 
 pub figure-bound : (n : ℕ) → n ≤ 999999 → length (decimal n) ≤ 6
 figure-bound n h = decimal-length n 6 (omega arith) (omega arith) .1
 
-pub heading-bound : (n f : ℕ) → n ≤ 512 → f ≤ 512 → length (heading n f) ≤ 24
-heading-bound n f h k = omega (arith, heading-length n f, place-bound n h, place-bound f k)
+pub heading-bound : (limit n f : ℕ) → n ≤ limit → f ≤ limit → length (heading n f) ≤ longestHeading limit
+heading-bound limit n f h k = omega (arith, heading-length n f, decimal-grows n limit h, decimal-grows f limit k)
 
 pub figures-bound : (f : Figures) → f .size ≤ 999999 → f .executed ≤ 999999 → f .broken ≤ 999999 → f .cancelled ≤ 999999 → f .passed ≤ 999999
     → f .«open» ≤ 999999 → length (figuresText f) ≤ 42
@@ -31,12 +27,12 @@ figures-bound f size executed broken cancelled passed left =
     let g = figure-bound (f .«open») left in
     omega (arith, traded-length f, figures-length f)
 
-pub row-bound : (family rank : ℕ) (o : Order) → family ≤ 512 → rank ≤ 512 → o .figures .size ≤ 999999 → o .figures .executed ≤ 999999
+pub row-bound : (limit family rank : ℕ) (o : Order) → family ≤ limit → rank ≤ limit → o .figures .size ≤ 999999 → o .figures .executed ≤ 999999
     → o .figures .broken ≤ 999999 → o .figures .cancelled ≤ 999999 → o .figures .passed ≤ 999999 → o .figures .«open» ≤ 999999
-    → length (o .key .source) ≡ 6 → length (o .key .token) ≡ 20 → length (orderText family rank o) ≤ 78
-row-bound family rank o h k size executed broken cancelled passed left source token =
-    let a = place-bound family h in
-    let b = place-bound rank k in
+    → length (o .key .source) ≡ 6 → length (o .key .token) ≡ 20 → length (orderText family rank o) ≤ longestRow limit
+row-bound limit family rank o h k size executed broken cancelled passed left source token =
+    let a = decimal-grows family limit h in
+    let b = decimal-grows rank limit k in
     let c = figures-bound (o .figures) size executed broken cancelled passed left in
     let d = trimmed-most (o .key .token) in
     omega (arith, row-length family rank o, rank-length family rank, names-length (o .key .source) (o .key .token))

@@ -88,6 +88,23 @@ pub decimal-length : (n w : ℕ) → 1 ≤ w → n < 10 ^ w → (1 ≤ length (d
 decimal-length n zero p h = absurd (omega arith)
 decimal-length n (suc w) p h = (decimal-some n, below-within 20 w n h)
 
+-- a larger number has as many digits or more
+decimalIn-grows : (w n m : ℕ) → n ≤ m → length (decimalIn w n) ≤ length (decimalIn w m)
+decimalIn-grows zero n m h = omega arith
+decimalIn-grows (suc w) n m h = go (ltb n 10) (ltb m 10) refl refl (decimalIn-grows w (n / 10) (m / 10) (omega arith))
+  where
+    go : (t u : Bool) → ltb n 10 ≡ t → ltb m 10 ≡ u → length (decimalIn w (n / 10)) ≤ length (decimalIn w (m / 10))
+        → length (cond t ((48 + n) ∷ []) (decimalIn w (n / 10) ++ ((48 + n % 10) ∷ [])))
+        ≤ length (cond u ((48 + m) ∷ []) (decimalIn w (m / 10) ++ ((48 + m % 10) ∷ [])))
+    go true true e f k = omega arith
+    go true false e f k = omega (arith, length-snoc (decimalIn w (m / 10)) (48 + m % 10))
+    go false true e f k = absurd (omega (arith, ltb-false n 10 e, ltb-true m 10 f))
+    go false false e f k =
+        omega (arith, length-snoc (decimalIn w (n / 10)) (48 + n % 10), length-snoc (decimalIn w (m / 10)) (48 + m % 10))
+
+pub decimal-grows : (n m : ℕ) → n ≤ m → length (decimal n) ≤ length (decimal m)
+decimal-grows n m h = decimalIn-grows 20 n m h
+
 -- ---- what it says
 
 -- a number behind its fill, in so many bytes as are not none

@@ -1,8 +1,9 @@
 -- 01, The sheet: the heading and a row, as the bytes of a text.
-use Prim.Native.Nat.{ℕ, zero, suc, _+_, _/_, _%_}
+use Prim.Native.Nat.{ℕ, zero, suc, _+_, _*_, _/_, _%_}
 use mathlib.Core.Bool.{cond}
 use mathlib.Core.List.{List, [], _∷_, _++_}
 use lib.Dec.{ltb, eqb}
+use lib.ListN.{length}
 use Rattle.order.specs.declared.Figures.{Figures}
 use Rattle.order.specs.declared.Order.{Order}
 use Rattle.day.specs.Listing.{Row}
@@ -68,3 +69,10 @@ rowText q =
 abbrev pub orderText : ℕ → ℕ → Order → List ℕ
 orderText family rank o =
     rowText (record { member = record { family = family; rank = rank; at = 0 }; figures = o .figures; key = o .key })
+
+-- the longest heading, and the longest row, where numbers of orders, families and places go up to a limit
+abbrev pub longestHeading : ℕ → ℕ
+longestHeading limit = 18 + 2 * length (decimal limit)
+
+abbrev pub longestRow : ℕ → ℕ
+longestRow limit = 72 + 2 * length (decimal limit)

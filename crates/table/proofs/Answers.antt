@@ -1,10 +1,11 @@
 -- What the tests of the damage check say of its answer, over plain variables: one law for each way out.
 use Prim.Native.Nat.{ℕ, _-_, _≤_, _<_}
-use mathlib.Core.Path.{_≡_, sym, ap, _∙_}
-use mathlib.Core.Bool.{Bool, true, false, not, _&&_, and-assoc, and-false}
+use native.Mathlib.Omega.{arith}
+use mathlib.Core.Path.{_≡_, refl, sym, ap, _∙_}
+use mathlib.Core.Bool.{Bool, true, false, not, _&&_, and-false, false≢true}
 use mathlib.Core.List.{List}
 use borrow.Author.Tests.{lt-ltb, le-leb, lt-leb, eq-eqb, ne-eqb, not-true, not-false}
-use lib.Dec.{ltb, leb, eqb}
+use lib.Dec.{leb, eqb}
 use lib.ListN.{length, getD}
 use Rattle.run.specs.Runs.{part, all, isZero}
 use Rattle.order.specs.declared.Order.{Order}
@@ -12,6 +13,8 @@ use Rattle.table.specs.Passing.{isMarked, elderFits}
 use Rattle.slot.specs.Slots.{orderIn}
 use Rattle.slot.specs.Places.{slot}
 use Rattle.table.specs.Tables.{countIn, limitOf, slotsSound, sound}
+use Rattle.run.proofs.Tests.{both}
+use Rattle.table.proofs.Sound.{sound-apart}
 
 -- ---- a test, and what it was said to be
 
@@ -42,22 +45,25 @@ module _ (s flags : List ℕ) (i e : ℕ) where
 abbrev header : List ℕ → Bool
 header s = leb (getD s 4 0) 1 && all isZero (part s 5 3)
 
-module _ (s : List ℕ) where
-  sound-parts : sound s ≡ (ltb 0 (limitOf (length s)) && leb (countIn s) (limitOf (length s)) && header s && slotsSound s)
-  unfolding sound
-  sound-parts =
-      rw (and-assoc (ltb 0 (limitOf (length s)) && leb (countIn s) (limitOf (length s))) (leb (getD s 4 0) 1) (all isZero (part s 5 3)))
+never : (b : Bool) → (b ≡ true → ⊥) → false ≡ b
+never true h = absurd (h refl)
+never false h = refl
 
+module _ (s : List ℕ) where
   pub no-limit : limitOf (length s) ≡ 0 → false ≡ sound s
-  unfolding sound
-  no-limit e = rw e
+  no-limit e = never (sound s) (λ good. omega (arith, sound-apart s good .bytes .meant))
 
   pub too-many : limitOf (length s) < countIn s → false ≡ sound s
-  unfolding sound
-  too-many h = rw (lt-leb (countIn s) (limitOf (length s)) h, and-false)
+  too-many h = never (sound s) (λ good. omega (arith, sound-apart s good .bytes .few))
+
+  its-header : sound s ≡ true → header s ≡ true
+  its-header good = let b = sound-apart s good .bytes in rw (le-leb (getD s 4 0) 1 (b .mark), b .spare)
 
   pub bad-header : header s ≡ false → false ≡ sound s
-  bad-header e = sym (sound-parts ∙ rw (e, and-false))
+  bad-header e = never (sound s) (λ good. false≢true (sym e ∙ its-header good))
 
   pub good-header : 0 < limitOf (length s) → countIn s ≤ limitOf (length s) → header s ≡ true → slotsSound s ≡ sound s
-  good-header h k e = sym (sound-parts ∙ rw (lt-ltb 0 (limitOf (length s)) h, le-leb (countIn s) (limitOf (length s)) k, e))
+  unfolding sound
+  good-header h k e =
+      let tests = both (leb (getD s 4 0) 1) (all isZero (part s 5 3)) e in
+      rw (lt-ltb 0 (limitOf (length s)) h, le-leb (countIn s) (limitOf (length s)) k, tests .0, tests .1)

@@ -17,7 +17,7 @@ use Rattle.slot.specs.Places.{slotAt, SlotInside}
 use Rattle.table.specs.Tables.{countIn, sound, tableIn}
 use Rattle.table.specs.declared.Found.the-variants.{At as FoundAt, Refused as NotFound}
 use Rattle.table.specs.declared.Made.the-variants.{Done, Refused}
-use Rattle.table.proofs.Whole.{whole}
+use Rattle.table.proofs.Sound.{slots-there}
 
 -- ---- where an order stands
 
@@ -63,4 +63,4 @@ module _ (s : List ℕ) (i : ℕ) (before : List ℕ) where
 
 -- a place below the count has a slot inside
 pub slot-of : (s : List ℕ) (i : ℕ) → sound s ≡ true → i < countIn s → SlotInside i s
-slot-of s i e h = omega (arith, whole s e .slots)
+slot-of s i e h = omega (arith, slots-there s e)

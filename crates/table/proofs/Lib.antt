@@ -1,5 +1,9 @@
--- What a table's length says of its slots' places
+-- What a table's length says of its limit and of its slots' places
 pub mod Limits
+-- Stored bytes follow the table through each of its changes
+pub mod Holding
+-- Bytes are sound exactly where they hold an undamaged table
+pub mod Sound
 -- One flag goes up, and no other changes
 pub mod Marking
 -- What holds of all orders holds of one among them
@@ -8,8 +12,6 @@ pub mod Splits
 pub mod Passes
 -- Each way out of the damage check
 pub mod Answers
--- What a sound table gives
-pub mod Whole
 -- The empty table keeps its promise and is sound
 pub mod Making
 -- Each way out of a host's question

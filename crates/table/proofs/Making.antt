@@ -5,10 +5,10 @@ use mathlib.Core.Path.{_≡_, refl, sym, ap, _∙_}
 use mathlib.Core.Bool.{true}
 use mathlib.Core.List.{List}
 use lib.Dec.{eqb}
-use borrow.Author.Tests.{lt-ltb, le-ltb, eq-eqb, ne-eqb}
-use lib.ListN.{length, getD, replicate}
+use borrow.Author.Tests.{lt-ltb, le-ltb, le-leb}
+use lib.ListN.{length, getD, replicate, length-replicate}
 use lib.Seq.{sets, length-sets}
-use Rattle.run.specs.Runs.{part}
+use Rattle.refusal.specs.Answer.{value}
 use Rattle.refusal.specs.declared.Refusal.the-variants.{NoRoom, Damaged}
 use Rattle.cell.specs.Cells.{le}
 use Rattle.day.specs.Tables.{empty}
@@ -16,39 +16,64 @@ use Rattle.run.proofs.Parts.{getD-part, part-whole, part-inside}
 use Rattle.day.proofs.Tables.{table-eq}
 use Rattle.table.specs.Promises.{Makes}
 use Rattle.slot.specs.Places.{ordersIn}
-use Rattle.table.specs.Tables.{countIn, tableIn, sound}
+use Rattle.table.specs.Tables.{tableLength, leastLimit, limitOf, countIn, sound, makeAnswer, madeFrom}
 use Rattle.table.specs.declared.Made.the-variants.{Done, Refused}
+use Rattle.table.proofs.Holding.{Holds}
+use Rattle.table.proofs.Limits.{limit-is, limit-least, slots-inside}
+use Rattle.table.proofs.Sound.{holds-sound}
 
 -- ---- the three answers
 
-pub too-short : (s : List ℕ) → length s < 40968 → Makes s (Refused NoRoom) s
-too-short s h = let short = lt-ltb (length s) 40968 h in record { said = rw short; out = rw short }
+pub too-short : (s : List ℕ) → length s < tableLength leastLimit → Makes s (Refused NoRoom) s
+too-short s h = let short = lt-ltb (length s) (tableLength leastLimit) h in record { said = rw short; out = rw short }
 
-pub too-long : (s : List ℕ) → 40968 < length s → Makes s (Refused Damaged) s
-too-long s h =
-    let long = le-ltb (length s) 40968 (omega arith) in
-    let other = ne-eqb (length s) 40968 (λ e. omega arith) in
-    record { said = rw (long, other); out = rw (long, other) }
+pub no-meaning : (s : List ℕ) → tableLength leastLimit ≤ length s → limitOf (length s) ≡ 0 → Makes s (Refused Damaged) s
+no-meaning s h z = let long = le-ltb (length s) (tableLength leastLimit) h in record { said = rw (long, z); out = rw (long, z) }
 
-pub made : (s after : List ℕ) → 40968 ≤ length s → length s ≤ 40968 → after ≡ sets s 0 (replicate 8 0) → Makes s Done after
-made s after h k e =
-    let long = le-ltb (length s) 40968 h in
-    let same = eq-eqb (length s) 40968 (omega arith) in
-    record { said = rw (long, same); out = rw (long, same) e }
+-- a buffer whose length has a meaning is never refused
+pub taken : (s : List ℕ) → 0 < limitOf (length s) → makeAnswer s ≡ value tt
+taken s h = rw (le-ltb (length s) (tableLength leastLimit) (limit-least (length s) h), lt-ltb 0 (limitOf (length s)) h)
+
+pub made : (s after : List ℕ) → 0 < limitOf (length s) → after ≡ sets s 0 (replicate 8 0) → Makes s Done after
+made s after h e = let answer = taken s h in record { said = sym answer; out = e ∙ ap (λ a. madeFrom a s) (sym answer) }
 
 -- ---- the table made
 
-header-zero : (s : List ℕ) → length s ≡ 40968 → countIn s ≡ 0 → getD s 4 0 ≡ 0 → part s 5 3 ≡ replicate 3 0
-    → (sound s ≡ true) × (tableIn s ≡ empty)
-unfolding sound
-header-zero s e c m z = (rw (e, c, m, z), table-eq (ap (λ n. ordersIn 0 n s) c) (ap (λ b. eqb b 1) m))
+-- its bytes hold the empty table
+module _ (before : List ℕ) (h : 0 < limitOf (length before)) where
+  abbrev zeros : List ℕ
+  zeros = replicate 8 0
 
-pub empty-sound : (before : List ℕ) → length before ≡ 40968
-    → (sound (sets before 0 (replicate 8 0)) ≡ true) × (tableIn (sets before 0 (replicate 8 0)) ≡ empty)
-empty-sound before e =
-    let header : List ℕ = replicate 8 0 in
-    let s = sets before 0 header in
-    let inside = part-inside before header 0 in
-    let mark = sym (getD-part s 0 8 4 (omega arith)) ∙ ap (λ l. getD l 4 0) (part-whole before header 0 8 (omega arith) refl) in
-    header-zero s (length-sets before 0 header ∙ e) (ap le (inside 0 4 (omega arith) (omega arith) (omega arith))) mark
-    (inside 5 3 (omega arith) (omega arith) (omega arith))
+  abbrev s : List ℕ
+  s = sets before 0 zeros
+
+  pub empty-holds : Holds s empty
+  empty-holds =
+      let room = slots-inside (length before) 0 h (omega arith) in
+      let inside = part-inside before zeros 0 in
+      let count : countIn s ≡ 0 = ap le (inside 0 4 (omega arith) (omega arith) (omega arith)) in
+      let mark : getD s 4 0 ≡ 0 = sym (getD-part s 0 8 4 (omega arith)) ∙ ap (λ l. getD l 4 0) (part-whole before zeros 0 8 (omega arith) refl) in
+      record {
+        meant = rw (length-sets before 0 zeros) h;
+        few = rw count (omega arith);
+        mark = omega arith;
+        spare = rw (inside 5 3 (omega arith) (omega arith) (omega arith));
+        tails = λ k l. absurd (omega arith);
+        says = table-eq (ap (λ n. ordersIn 0 n s) count) (ap (λ b. eqb b 1) mark);
+      }
+
+  pub empty-sound : sound s ≡ true
+  empty-sound = holds-sound empty-holds (rw (le-leb 0 (limitOf (length s)) (omega arith)))
+
+-- ---- a buffer to make it in
+
+-- shut, so that its bytes are never computed
+pub blank : List ℕ
+blank = replicate (tableLength leastLimit) 0
+
+pub blank-limit : limitOf (length blank) ≡ leastLimit
+unfolding blank
+blank-limit = sym (limit-is (length blank) (length-replicate {A = ℕ} (tableLength leastLimit) 0))
+
+pub blank-meant : 0 < limitOf (length blank)
+blank-meant = rw blank-limit (omega arith)

@@ -20,7 +20,7 @@ use Rattle.slot.specs.Slots.{orderIn}
 use Rattle.slot.specs.Places.{ordersIn, slot}
 use Rattle.table.specs.Tables.{countIn, limitOf, tableIn, tailZero, tailsZero, slotsSound}
 use Rattle.slot.proofs.Laws.{length-orders}
-use Rattle.table.proofs.Limits.{limit-most}
+use Rattle.table.proofs.Limits.{mostLimit, limit-most}
 use Rattle.table.proofs.Marking.{none-marked}
 use Rattle.table.proofs.Splits.{open-orders, orders-at, sound-among, earlier-among, closed-among, unshared-among, member-behind}
 
@@ -29,17 +29,17 @@ pub record Passed (s flags : List ℕ) (i : ℕ) : Type 0 where
   pub inside : i ≤ countIn s
   pub tails : tailsZero 0 (countIn s) s ≡ tailsZero i (countIn s - i) s
   pub orders : Undamaged (limitOf (length s)) (ordersIn 0 i s)
-  pub room : roomIn flags ≡ 512
+  pub room : roomIn flags ≡ mostLimit
   pub marks : (e : ℕ) → isMarked flags e ≡ member e (eldersOf (ordersIn 0 i s))
 
-pub none-passed : (s flags : List ℕ) → flags ≡ replicate 512 0 → Passed s flags 0
+pub none-passed : (s flags : List ℕ) → flags ≡ replicate mostLimit 0 → Passed s flags 0
 none-passed s flags e =
     record {
       inside = omega arith;
       tails = rw sub-zero;
       orders = record { fits = omega arith; early = refl; alone = refl; shut = refl; sound = refl };
       room = rw e;
-      marks = λ x. rw e (none-marked 512 x);
+      marks = λ x. rw e (none-marked mostLimit x);
     }
 
 pub all-passed : (s flags : List ℕ) (i : ℕ) → countIn s ≤ i → Passed s flags i → true ≡ slotsSound s
@@ -49,9 +49,9 @@ all-passed s flags i h p =
     sym (rw (p .tails, z) (whole (limitOf (length s)) (tableIn s) (rw e at (p .orders))))
 
 -- what undamaged slots are
-sound-apart : (s : List ℕ) → slotsSound s ≡ true
+slots-apart : (s : List ℕ) → slotsSound s ≡ true
     → (tailsZero 0 (countIn s) s ≡ true) × Undamaged (limitOf (length s)) (ordersIn 0 (countIn s) s)
-sound-apart s t =
+slots-apart s t =
     let a = both (tailsZero 0 (countIn s) s) (undamaged (limitOf (length s)) (tableIn s)) t in
     (a .0, apart (limitOf (length s)) (tableIn s) (a .1))
 
@@ -94,7 +94,7 @@ module _ {s flags : List ℕ} {i : ℕ} {o : Order} (p : Passed s flags i) (h : 
 
   slot-fits : slotsSound s ≡ true → slotFits s i o ≡ true
   slot-fits t =
-      let (tails, u) = sound-apart s t in
+      let (tails, u) = slots-apart s t in
       let tail = both (tailZero s i) (tailsZero (i + 1) (countIn s - (i + 1)) s) (sym tail-among ∙ tails) .0 in
       rw (tail, sound-among (ordersIn 0 i s) o (later s i) (rw order-among at (u .sound)))
 
@@ -103,7 +103,7 @@ module _ {s flags : List ℕ} {i : ℕ} {o : Order} (p : Passed s flags i) (h : 
       let e = o .elder in
       let xs = eldersOf (ordersIn 0 i s) in
       let ys = eldersOf (later s i) in
-      let u = sound-apart s t .1 in
+      let u = slots-apart s t .1 in
       let n : length xs ≡ i = length-elders (ordersIn 0 i s) ∙ length-orders 0 i s in
       let early : e ≤ i = omega (arith, earlier-among 0 xs e ys (rw elders-among at (u .early))) in
       let shut = closed-among (ordersIn 0 (countIn s) s) xs e ys (rw elders-among at (u .shut)) in

@@ -1,7 +1,7 @@
 -- docs/LAYOUT.md, The lent table: the table that bytes say, and when they have a meaning.
 use Prim.Native.Nat.{ℕ, zero, suc, _+_}
 use mathlib.Core.Bool.{Bool, true, cond, _&&_}
-use mathlib.Core.List.{List}
+use mathlib.Core.List.{List, [], _∷_}
 use lib.Dec.{ltb, leb, eqb}
 use lib.ListN.{length, getD, replicate}
 use lib.Seq.{sets}
@@ -16,9 +16,21 @@ use Rattle.slot.specs.Places.{slotAt, ordersIn}
 abbrev pub tableLength : ℕ → ℕ
 tableLength limit = slotAt limit
 
+-- 01, Orders and their figures: "A table holds at most 512 orders"
+abbrev pub leastLimit : ℕ
+leastLimit = 512
+
+-- the limits that tables have, the least first
+abbrev pub limits : List ℕ
+limits = leastLimit ∷ []
+
+abbrev pub limitAmong : List ℕ → ℕ → ℕ
+limitAmong [] n = 0
+limitAmong (limit ∷ others) n = cond (eqb n (tableLength limit)) limit (limitAmong others n)
+
 -- how many orders a table of so many bytes has room for; 0 where the length has no meaning
-abbrev pub limitOf : ℕ → ℕ
-limitOf n = cond (eqb n (tableLength 512)) 512 0
+unfoldable pub limitOf : ℕ → ℕ
+limitOf n = limitAmong limits n
 
 abbrev pub countIn : List ℕ → ℕ
 countIn s = le (part s 0 4)
@@ -49,7 +61,7 @@ sound s =
 -- 01, Refusals by number, 4 and 5: making the empty table in a lent buffer
 abbrev pub makeAnswer : List ℕ → Answer (Unit {0})
 makeAnswer before =
-    cond (ltb (length before) (tableLength 512)) (refused 4 0) (cond (eqb (length before) (tableLength 512)) (value tt) (refused 5 0))
+    cond (ltb (length before) (tableLength leastLimit)) (refused 4 0) (cond (ltb 0 (limitOf (length before))) (value tt) (refused 5 0))
 
 -- only the header is written: free slots keep whatever they hold
 abbrev pub madeFrom : Answer (Unit {0}) → List ℕ → List ℕ

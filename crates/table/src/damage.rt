@@ -5,6 +5,7 @@ ghost use lib.ListN.{length};
 ghost use Rattle.table.specs.Passing.{elderFits, roomIn, slotFits};
 ghost use Rattle.slot.specs.Places.{SlotInside};
 ghost use Rattle.table.specs.Tables.{countIn, limitOf, slotsSound, sound};
+use crate::FLAGS;
 use crate::flags;
 use crate::header;
 use order::Order;
@@ -45,7 +46,7 @@ fn sound_slots(t: &[u8], n: usize) -> bool
     requires { ⌜ n ≤ limitOf (length (now t)) ⌝ }
     ensures { λ r. ⌜ r ≡ slotsSound (now (t .entry)) ⌝ }
 {
-    let mut flags = [0u8; 512];
+    let mut flags = [0u8; FLAGS];
     let mut i = 0;
     while i < n {
         let o = slot::order_at(t, i);

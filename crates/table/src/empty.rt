@@ -12,7 +12,7 @@ pub fn make_empty(t: &mut [u8]) -> Made
     if t.len() < TABLE {
         return Made::Refused(Refusal::NoRoom);
     }
-    if TABLE < t.len() {
+    if header::limit(t.len()) == 0 {
         return Made::Refused(Refusal::Damaged);
     }
     header::clear(t);

@@ -27,7 +27,7 @@ pub fn count(t: &[u8]) -> u64
     cell::get(t, 0, 4)
 }
 
-pub fn put_count(t: &mut [u8], n: u64)
+pub(crate) fn put_count(t: &mut [u8], n: u64)
     requires { ⌜ 8 ≤ length (now t) ⌝ }
     ensures { λ _. ⌜ now (t .exit) ≡ sets (now (t .entry)) 0 (leBytes 4 n) ⌝ }
 {

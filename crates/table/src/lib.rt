@@ -1,19 +1,24 @@
-// The lent table: its header, the empty table, the damage check, and what a host asks of it.
+// The lent table: its header, the empty table, one order more, the damage check, and what a host asks of it.
 mod asked;
 pub mod damage;
 mod empty;
 mod flags;
 pub mod header;
+mod orders;
 
 pub use asked::copy_order;
 pub use asked::look_up;
 pub use empty::make_empty;
+pub use orders::append;
 use refusal::Refusal;
 
-// The bytes of a table, and the most orders that it holds.
-pub const TABLE: usize = 40_968;
-
+// The most orders that a table holds, and its bytes. `header::limit` says which lengths have a meaning.
 pub const LIMIT: u64 = 512;
+
+pub const TABLE: usize = slot::HEADER + slot::SLOT * LIMIT as usize;
+
+// A flag for each number that an elder can have.
+const FLAGS: usize = LIMIT as usize;
 
 // The answer of a lookup for a host.
 pub enum Found {

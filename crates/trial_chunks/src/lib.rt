@@ -3,7 +3,7 @@ ghost use Prim.Native.Nat.{_+_, _≤_, _<_};
 ghost use mathlib.Core.Path.{_≡_};
 ghost use mathlib.Core.Bool.{true};
 ghost use lib.ListN.{length};
-ghost use Rattle.table.specs.Tables.{sound, tableLength};
+ghost use Rattle.table.specs.Tables.{limitOf, sound};
 ghost use Rattle.feed.specs.Steps.{holdLength, longest, roomAtEnd};
 use chunk::Kept;
 
@@ -12,7 +12,7 @@ const LEAST: usize = 64;
 
 // All that the sheet program writes for the text. A case that answers false has printed nothing.
 pub fn feed_all(text: &[u8], sizes: &[u8], room: usize) -> bool {
-    let mut table = [0u8; table::TABLE];
+    let mut table = chunk::table_buffer();
     let mut hold = [0u8; feed::HOLD];
     let mut out = output();
     feed_good(text, sizes, room, &mut table, &mut hold, &mut out)
@@ -27,9 +27,9 @@ fn feed_good(
     hold: &mut [u8],
     out: &mut [u8],
 ) -> bool
-    requires { ⌜ length (now t) ≡ tableLength 512 ⌝ }
+    requires { ⌜ 0 < limitOf (length (now t)) ⌝ }
     requires { ⌜ length (now hold) ≡ holdLength ⌝ }
-    requires { ⌜ roomAtEnd ≤ length (now out) ⌝ }
+    requires { ⌜ roomAtEnd (limitOf (length (now t))) ≤ length (now out) ⌝ }
 {
     if room < LEAST {
         return false;
@@ -65,9 +65,9 @@ fn any_zero(sizes: &[u8]) -> bool {
 fn feed_in(text: &[u8], sizes: &[u8], room: usize, t: &mut [u8], hold: &mut [u8], out: &mut [u8])
     requires { ⌜ 2 ≤ length (now sizes) ⌝ }
     requires { ⌜ (longest ≤ room) × (room ≤ length (now out)) ⌝ }
-    requires { ⌜ length (now t) ≡ tableLength 512 ⌝ }
+    requires { ⌜ 0 < limitOf (length (now t)) ⌝ }
     requires { ⌜ length (now hold) ≡ holdLength ⌝ }
-    requires { ⌜ roomAtEnd ≤ length (now out) ⌝ }
+    requires { ⌜ roomAtEnd (limitOf (length (now t))) ≤ length (now out) ⌝ }
 {
     chunk::begin(t);
     let kept = feed_chunks(text, sizes, t, hold, &mut out[0..room]);

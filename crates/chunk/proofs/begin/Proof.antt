@@ -1,19 +1,20 @@
--- `chunk::begin`: a buffer of a table's length is never refused.
-use Prim.Native.Nat.{ℕ}
-use mathlib.Core.Path.{_≡_, _∙_}
+-- `chunk::begin`: a buffer whose length has a meaning is never refused.
+use Prim.Native.Nat.{ℕ, _<_}
+use mathlib.Core.Path.{_≡_, ap, _∙_}
 use mathlib.Core.List.{List, []}
 use borrow.Author.Needs.{needs}
 use denote.Ref.{now}
 use lib.ListN.{length}
 use Rattle.table.specs.Promises.{Makes}
-use Rattle.table.specs.Tables.{tableLength}
+use Rattle.table.specs.Tables.{limitOf, madeFrom}
 use Rattle.table.specs.declared.Made.{Made}
+use Rattle.table.proofs.Making.{taken}
 use Rattle.book.specs.Bytes.{bytesAfter}
 use Rattle.chunk.proofs.begin.Statement.{statement}
 use Rattle.chunk.proofs.begin.Tie as tie
 
-never-refused : (before : List ℕ) {x : Made} {after : List ℕ} → length before ≡ tableLength 512 → Makes before x after → after ≡ bytesAfter before []
-never-refused before e m = m .out ∙ rw e
+never-refused : (before : List ℕ) {x : Made} {after : List ℕ} → 0 < limitOf (length before) → Makes before x after → after ≡ bytesAfter before []
+never-refused before meant m = m .out ∙ ap (λ a. madeFrom a before) (taken before meant)
 
 make-empty-requires : tie.Need-make-empty-requires
 make-empty-requires c κs = search needs

@@ -8,14 +8,14 @@ use borrow.Author.Needs.{needs}
 use denote.Ref.{now}
 use lib.ListN.{length}
 use lib.Seq.{length-sets}
-use Rattle.table.specs.Tables.{sound}
+use Rattle.table.specs.Tables.{limitOf, sound}
 use Rattle.row.specs.Writes.{Wrote}
 use Rattle.feed.specs.Steps.{between, finished, heldIn, roomAtEnd}
 use Rattle.feed.proofs.Finishing.{finished-most}
 use Rattle.chunk.proofs.end.Statement.{statement}
 use Rattle.chunk.proofs.end.Tie as tie
 
-written-inside : (held : List ℕ) (l : ℕ) (t before : List ℕ) {out : List ℕ} {n : ℕ} → sound t ≡ true → roomAtEnd ≤ length before
+written-inside : (held : List ℕ) (l : ℕ) (t before : List ℕ) {out : List ℕ} {n : ℕ} → sound t ≡ true → roomAtEnd (limitOf (length t)) ≤ length before
     → Wrote (finished (between held l t)) before out n → n ≤ length out
 written-inside held l t before e h w =
     omega (arith, w .long, ap length (w .out), length-sets before 0 (finished (between held l t)), finished-most held l t e)

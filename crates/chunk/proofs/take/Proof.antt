@@ -1,10 +1,10 @@
 -- `chunk::take` meets its contract. Each step uses a byte or more of what is left of the chunk, so the turns end.
 use Prim.Native.Nat.{_-_}
 use native.Mathlib.Omega.{arith}
+use mathlib.Core.Path.{_∙_}
 use borrow.Author.Needs.{needs}
 use denote.Ref.{now}
 use lib.ListN.{length}
-use Rattle.book.proofs.Sound.{sound-holds}
 use Rattle.feed.specs.Steps.{between, heldIn}
 use Rattle.chunk.proofs.Turns.{Turn, first-turn, one-step, next-turn, stopped, all-taken}
 use Rattle.chunk.proofs.take.Statement.{statement}
@@ -12,7 +12,7 @@ use Rattle.chunk.proofs.take.Tie as tie
 
 abbrev Inv-loop : tie.InvT-loop
 Inv-loop chunk t₀ hold₀ held line out₀ used₀ kept₀ number₀ t hold out used kept number =
-    Turn (between (heldIn hold₀ held) line t₀) chunk out₀ t hold out used kept number
+    Turn (between (heldIn hold₀ held) line t₀) chunk t₀ out₀ t hold out used kept number
 
 abbrev μ-loop : tie.MeasureT-loop
 μ-loop chunk t₀ hold₀ held line out₀ used₀ kept₀ number₀ t hold out used kept number = length chunk - used
@@ -38,9 +38,7 @@ say-requires : tie.Need-say-requires Inv-loop μ-loop
 say-requires c κs = one-step (c .before .before .before .before .before .before .before .before .before .before .before .before .before .loop .inv) (c .before .before .before .before .before .before .before .before .before .before .before .before .loop-test .taken) (search needs) (c .before .before .before .before .before .before .before .step .ensures .0) .wrote
 
 same-length : tie.Need-same-length Inv-loop μ-loop
-same-length c =
-    let turn = c .before .before .before .before .before .before .before .before .before .before .before .before .before .before .before .loop in
-    omega (arith, sound-holds (now (c .before .before .before .before .before .before .before .before .before .before .before .before .before .before .before .before .before .before .before .before .args .t)) (c .before .before .before .before .before .before .before .before .before .before .before .before .before .before .before .before .before .before .before .before .pre .0) .0 .long, sound-holds (turn .t) (turn .inv .good) .0 .long)
+same-length c = c .before .before .before .before .before .before .before .before .before .step .kept .1 .0 ∙ c .before .before .before .before .before .before .before .before .before .before .before .before .before .before .before .loop .inv .table
 
 same-length-2 : tie.Need-same-length-2 Inv-loop μ-loop
 same-length-2 c = search needs
@@ -64,13 +62,11 @@ loop-less c =
 
 loop-again : tie.Need-loop-again Inv-loop μ-loop
 loop-again c =
-    let step = c .before .before .before .before .before .before .before .before .before .before .step .ensures in
-    next-turn (c .before .before .before .before .before .before .before .before .before .before .before .before .before .before .before .before .loop .inv) (c .before .before .before .before .before .before .before .before .before .before .before .before .before .before .before .loop-test .taken) (search needs) (step .0) (step .1)
+    let step = c .before .before .before .before .before .before .before .before .before .before .step in
+    next-turn (c .before .before .before .before .before .before .before .before .before .before .before .before .before .before .before .before .loop .inv) (c .before .before .before .before .before .before .before .before .before .before .before .before .before .before .before .loop-test .taken) (c .before .before .before .before .before .before .before .before .before .before .before .before .before .before .before .before .before .before .before .before .before .pre .1 .1 .1) (step .ensures .0) (step .ensures .1) (step .kept .1 .0)
 
 same-length-4 : tie.Need-same-length-4 Inv-loop μ-loop
-same-length-4 c =
-    let turn = c .before .loop in
-    omega (arith, sound-holds (now (c .before .before .before .before .before .before .args .t)) (c .before .before .before .before .before .before .pre .0) .0 .long, sound-holds (turn .t) (turn .inv .good) .0 .long)
+same-length-4 c = c .before .loop .inv .table
 
 same-length-5 : tie.Need-same-length-5 Inv-loop μ-loop
 same-length-5 c = search needs

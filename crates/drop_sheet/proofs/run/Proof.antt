@@ -1,13 +1,10 @@
 -- `drop_sheet::run` meets its contract: from the empty table, over what is read, to the end.
-use Prim.Native.Nat.{_≤_}
-use native.Mathlib.Omega.{arith}
+use mathlib.Core.Path.{_∙_}
 use mathlib.Core.Bool.{false≢true}
 use borrow.Author.Needs.{needs}
 use borrow.Author.Tests.{not-false}
 use denote.Ref.{now}
-use lib.ListN.{length}
-use Rattle.feed.specs.Steps.{roomAtEnd}
-use Rattle.chunk.proofs.Leading.{begun-sound, all-printed}
+use Rattle.chunk.proofs.Leading.{room-kept, begun-sound, all-printed}
 use Rattle.drop_sheet.proofs.run.Statement.{statement}
 use Rattle.drop_sheet.proofs.run.Tie as tie
 
@@ -35,8 +32,11 @@ returns c = λ e. absurd (false≢true e)
 
 end-requires : tie.Need-end-requires
 end-requires c κs =
-    let read = c .before .before .before .before .before .before .before .before .before .before .before .before .before .read-all .ensures .takes in
-    (read .sound, (read .long, (read .few, search needs)))
+    let start = c .before .before .before .before .before .before .before .before .before .before .before .before .before .before .before .before .before .before .before .before .before .before .before .before .before .before in
+    let begin = c .before .before .before .before .before .before .before .before .before .before .before .before .before .before .before .before .before .before .before .before .begin in
+    let read = c .before .before .before .before .before .before .before .before .before .before .before .before .before .read-all in
+    let room = room-kept (read .kept .0 ∙ begin .kept .0) (read .kept .1 .1 .1 .0) (start .pre .1 .1) in
+    (read .ensures .takes .sound, (read .ensures .takes .long, (read .ensures .takes .few, room)))
 
 unwritten-requires : tie.Need-unwritten-requires
 unwritten-requires c κs = search needs
@@ -71,9 +71,10 @@ same-length-12 c = search needs
 returns-3 : tie.Need-returns-3
 returns-3 c =
     let start = c .before .before .before .before .before .before .before .before .before .before .before .before .before .before .before .before .before .before .before .before .before .before .before .before .before .before .before .before .before .before .before .before in
+    let begin = c .before .before .before .before .before .before .before .before .before .before .before .before .before .before .before .before .before .before .before .before .before .before .before .before .before .before .begin in
     let read = c .before .before .before .before .before .before .before .before .before .before .before .before .before .before .before .before .before .before .before .read-all in
-    let room : roomAtEnd ≤ length (read .last .1 .1 .1 .0) = omega (arith, read .kept .1 .1 .1 .0, start .pre .1 .1) in
-    λ _. all-printed (now (start .args .t)) (c .before .before .before .before .before .before .before .before .before .before .before .before .before .before .before .before .before .before .before .before .before .before .before .before .before .before .begin .ensures) (read .ensures) (not-false (read .result .good) (c .before .before .before .before .before .before .before .before .before .if1 .left)) (c .before .before .before .before .before .end .ensures) room
+    let room = room-kept (read .kept .0 ∙ begin .kept .0) (read .kept .1 .1 .1 .0) (start .pre .1 .1) in
+    λ _. all-printed (now (start .args .t)) (begin .ensures) (read .ensures) (not-false (read .result .good) (c .before .before .before .before .before .before .before .before .before .if1 .left)) (c .before .before .before .before .before .end .ensures) room
 
 pub run-spec : {M : Type 1} → statement M
 run-spec =

@@ -1,4 +1,4 @@
--- `feed::sheet_of` meets its contract: the sheet of a sound table has room in 39,960 bytes, so it is not refused.
+-- `feed::sheet_of` meets its contract: the sheet of a sound table has room in what its limit asks for, so it is not refused.
 use borrow.Author.Needs.{needs}
 use denote.Ref.{now}
 use Rattle.feed.proofs.Finishing.{never-refused, sheet-written}

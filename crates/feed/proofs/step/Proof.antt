@@ -4,7 +4,6 @@ use native.Mathlib.Omega.{arith}
 use borrow.Author.Needs.{needs}
 use denote.Ref.{now}
 use lib.ListN.{length}
-use Rattle.book.proofs.Sound.{sound-holds}
 use Rattle.feed.specs.Steps.{between, heldIn, stepFrom}
 use Rattle.feed.proofs.Turns.{Turn, first-turn, piece-bounds, same-long, room-lent, room-said, at-chunk-end, keeps-begun, stops, next-turn}
 use Rattle.feed.proofs.step.Statement.{statement}
@@ -12,7 +11,7 @@ use Rattle.feed.proofs.step.Tie as tie
 
 abbrev Inv-loop : tie.InvT-loop
 Inv-loop chunk t₀ hold₀ held line out₀ used₀ wrote₀ kept₀ number₀ t hold out used wrote kept number =
-    Turn (stepFrom (length out₀) (between (heldIn hold₀ held) line t₀) chunk) chunk out₀ t hold out used wrote kept number
+    Turn (stepFrom (length out₀) (between (heldIn hold₀ held) line t₀) chunk) chunk t₀ out₀ t hold out used wrote kept number
 
 abbrev μ-loop : tie.MeasureT-loop
 μ-loop chunk t₀ hold₀ held line out₀ used₀ wrote₀ kept₀ number₀ t hold out used wrote kept number = length chunk - used
@@ -48,9 +47,7 @@ keep-requires : tie.Need-keep-requires Inv-loop μ-loop
 keep-requires c κs = search needs
 
 same-length : tie.Need-same-length Inv-loop μ-loop
-same-length c =
-    let turn = c .before .before .before .before .before .before .before .before .before .loop in
-    omega (arith, sound-holds (now (c .before .before .before .before .before .before .before .before .before .before .before .before .before .before .args .t)) (c .before .before .before .before .before .before .before .before .before .before .before .before .before .before .pre .0) .0 .long, sound-holds (turn .t) (turn .inv .good) .0 .long)
+same-length c = c .before .before .before .before .before .before .before .before .before .loop .inv .table
 
 same-length-2 : tie.Need-same-length-2 Inv-loop μ-loop
 same-length-2 c = search needs
@@ -69,9 +66,7 @@ sub-if2 : tie.Need-sub-if2 Inv-loop μ-loop
 sub-if2 c = search (needs, same-long (c .before .before .before .before .loop .inv))
 
 same-length-4 : tie.Need-same-length-4 Inv-loop μ-loop
-same-length-4 c =
-    let turn = c .before .before .before .before .before .loop in
-    omega (arith, sound-holds (now (c .before .before .before .before .before .before .before .before .before .before .args .t)) (c .before .before .before .before .before .before .before .before .before .before .pre .0) .0 .long, sound-holds (turn .t) (turn .inv .good) .0 .long)
+same-length-4 c = c .before .before .before .before .before .loop .inv .table
 
 same-length-5 : tie.Need-same-length-5 Inv-loop μ-loop
 same-length-5 c = search needs
@@ -131,9 +126,7 @@ loop-again c =
     (c .next-line .ensures)
 
 same-length-7 : tie.Need-same-length-7 Inv-loop μ-loop
-same-length-7 c =
-    let turn = c .before .loop in
-    omega (arith, sound-holds (now (c .before .before .before .before .before .before .args .t)) (c .before .before .before .before .before .before .pre .0) .0 .long, sound-holds (turn .t) (turn .inv .good) .0 .long)
+same-length-7 c = c .before .loop .inv .table
 
 same-length-8 : tie.Need-same-length-8 Inv-loop μ-loop
 same-length-8 c = search needs

@@ -5,13 +5,13 @@ use borrow.Author.Tests.{not-true, not-false}
 use denote.Ref.{now}
 use lib.ListN.{length, length-replicate}
 use Rattle.table.proofs.Limits.{limit-most}
-use Rattle.table.proofs.Whole.{whole}
+use Rattle.table.proofs.Sound.{header-there, sound-apart}
 use Rattle.sheet.proofs.Answering.{Measured, no-heading, no-rows, rows-room, sheet-written, slots-inside, written-inside, written-kept}
 use Rattle.sheet.proofs.write_sound.Statement.{statement}
 use Rattle.sheet.proofs.write_sound.Tie as tie
 
 count-requires : tie.Need-count-requires
-count-requires c κs = whole (now (c .before .before .args .t)) (c .before .before .pre) .header
+count-requires c κs = header-there (now (c .before .before .args .t)) (c .before .before .pre)
 
 count-roots-requires : tie.Need-count-roots-requires
 count-roots-requires c κs = slots-inside (now (c .before .before .before .args .t)) (c .count .result) (c .before .before .before .pre) (c .count .ensures)
@@ -40,7 +40,7 @@ note-all-requires c κs =
     let m = measured (c .before .before) in
     let s = now (c .before .before .before .before .before .before .before .args .t) in
     let n = c .before .before .before .before .count .result in
-    let few = whole s (m .good) .fits in
+    let few = sound-apart s (m .good) .bytes .few in
     let most = limit-most (length s) in
     let slots = slots-inside s n (m .good) (m .count) in
     (slots, (rw length-replicate (omega (arith, m .count, few, most)), omega (arith, m .count, few, most)))

@@ -1,10 +1,10 @@
 -- `trial_chunks::feed_in` is safe: the table made is sound, and stays so while the chunks are booked.
 use Prim.Native.Nat.{_-_}
-use native.Mathlib.Omega.{arith}
+use mathlib.Core.Path.{_∙_}
 use borrow.Author.Needs.{needs}
 use borrow.Rule.Slice.PartMut.{same-len-mid}
 use denote.Ref.{now}
-use Rattle.chunk.proofs.Leading.{begun-sound}
+use Rattle.chunk.proofs.Leading.{room-kept, begun-sound}
 use Rattle.trial_chunks.proofs.feed_in.Statement.{statement}
 use Rattle.trial_chunks.proofs.feed_in.Tie as tie
 
@@ -30,7 +30,8 @@ end-requires c κs =
     let start = c .before .before .before .before .before .before .before .before .before .before .before .before .before .before .before .before .before .before .before .before .before .before in
     let fed = c .before .before .before .before .before .before .before .before .before .feed-chunks in
     let whole = same-len-mid 0 (start .args .room - 0) (now (start .args .out)) (fed .last .1 .1 .1 .1 .0) (fed .kept .1 .1 .1 .1 .0) in
-    (fed .ensures .1, (fed .ensures .2, (fed .ensures .0, omega (arith, whole, start .pre .1 .1 .1 .1))))
+    let begin = c .before .before .before .before .before .before .before .before .before .before .before .before .before .before .before .begin in
+    (fed .ensures .1, (fed .ensures .2, (fed .ensures .0, room-kept (fed .kept .1 .1 .0 ∙ begin .kept .0) whole (start .pre .1 .1 .1 .1))))
 
 same-length : tie.Need-same-length
 same-length c = search needs

@@ -3,7 +3,7 @@ use borrow.Author.Needs.{needs}
 use denote.Ref.{now}
 use Rattle.table.specs.Tables.{countIn}
 use Rattle.slot.proofs.Laws.{length-orders}
-use Rattle.table.proofs.Whole.{whole}
+use Rattle.table.proofs.Sound.{header-there}
 use Rattle.book.proofs.planning.is_full.Statement.{statement}
 use Rattle.book.proofs.planning.is_full.Tie as tie
 
@@ -11,7 +11,7 @@ limit-requires : tie.Need-limit-requires
 limit-requires c κs = search needs
 
 count-requires : tie.Need-count-requires
-count-requires c κs = whole (now (c .before .before .args .t)) (search needs) .header
+count-requires c κs = header-there (now (c .before .before .args .t)) (search needs)
 
 returns : tie.Need-returns
 returns c = let s = (now (c .before .before .before .args .t)) in

@@ -9,7 +9,7 @@ use Rattle.table.specs.Tables.{tableIn}
 use Rattle.order.specs.Names.{keyOf}
 use Rattle.slot.proofs.Lookups.{place-is}
 use Rattle.book.proofs.Judged.{no-maker, maker-known, maker-unknown}
-use Rattle.table.proofs.Whole.{whole}
+use Rattle.table.proofs.Sound.{header-there, slots-there}
 use Rattle.book.proofs.planning.is_taken.Statement.{statement}
 use Rattle.book.proofs.planning.is_taken.Tie as tie
 
@@ -20,13 +20,13 @@ returns : tie.Need-returns
 returns c = let s = (now (c .before .before .before .args .t)) in no-maker _ (keyOf (c .before .before .before .args .r)) (tableIn s .orders) (sym (c .before .is-maker .ensures) ∙ not-true _ (c .if1 .taken))
 
 count-requires : tie.Need-count-requires
-count-requires c κs = whole (now (c .before .before .before .args .t)) (search needs) .header
+count-requires c κs = header-there (now (c .before .before .before .args .t)) (search needs)
 
 key-of-requires : tie.Need-key-of-requires
 key-of-requires c κs = search needs
 
 find-key-requires : tie.Need-find-key-requires
-find-key-requires c κs = omega (arith, c .before .count .ensures, whole (now (c .before .before .before .before .before .args .t)) (search needs) .slots)
+find-key-requires c κs = omega (arith, c .before .count .ensures, slots-there (now (c .before .before .before .before .before .args .t)) (search needs))
 
 enum-told : tie.Need-enum-told
 enum-told c = search needs

@@ -3,13 +3,13 @@ use mathlib.Core.Path.{sym, _∙_}
 use borrow.Author.Tests.{not-true, not-false}
 use borrow.Author.Needs.{needs}
 use denote.Ref.{now}
-use Rattle.table.proofs.Whole.{whole}
+use Rattle.table.proofs.Sound.{header-there}
 use Rattle.book.proofs.Planned.{day-over, known-key, full-of-new, new}
 use Rattle.book.proofs.planning.plan.Statement.{statement}
 use Rattle.book.proofs.planning.plan.Tie as tie
 
 is-over-requires : tie.Need-is-over-requires
-is-over-requires c κs = whole (now (c .before .args .t)) (search needs) .header
+is-over-requires c κs = header-there (now (c .before .args .t)) (search needs)
 
 returns : tie.Need-returns
 returns c = day-over (now (c .before .before .before .args .t)) (c .before .before .before .args .r) (sym (c .before .is-over .ensures) ∙ c .if1 .taken)

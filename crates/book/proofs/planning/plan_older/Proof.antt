@@ -8,11 +8,11 @@ use Rattle.slot.specs.Slots.{orderIn}
 use Rattle.slot.specs.Places.{slot}
 use Rattle.slot.proofs.Lookups.{nobody-found, place-is}
 use Rattle.table.specs.Tables.{tableIn}
-use Rattle.table.proofs.Whole.{whole}
 use Rattle.day.specs.Refusals.{subject}
 use Rattle.day.specs.Machine.{place}
 use Rattle.book.proofs.Booked.{plan-is}
 use Rattle.book.proofs.There.{There, there}
+use Rattle.table.proofs.Sound.{header-there, slots-there}
 use Rattle.book.proofs.Planned.{unknown-key, about}
 use Rattle.book.proofs.planning.plan_older.Statement.{statement}
 use Rattle.book.proofs.planning.plan_older.Tie as tie
@@ -34,13 +34,13 @@ here c =
 -- ---- the needs
 
 count-requires : tie.Need-count-requires
-count-requires c κs = whole (now (c .before .args .t)) (search needs) .header
+count-requires c κs = header-there (now (c .before .args .t)) (search needs)
 
 subject-requires : tie.Need-subject-requires
 subject-requires c κs = search needs
 
 find-key-requires : tie.Need-find-key-requires
-find-key-requires c κs = omega (arith, c .before .count .ensures, whole (now (c .before .before .before .args .t)) (search needs) .slots)
+find-key-requires c κs = omega (arith, c .before .count .ensures, slots-there (now (c .before .before .before .args .t)) (search needs))
 
 enum-known-i : tie.Need-enum-known-i
 enum-known-i c = search needs

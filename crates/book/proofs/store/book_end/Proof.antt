@@ -3,12 +3,12 @@ use mathlib.Core.Path.{sym, _∙_}
 use borrow.Author.Needs.{needs}
 use denote.Ref.{now}
 use Rattle.book.proofs.Booked.{over-before, over-now}
-use Rattle.table.proofs.Whole.{whole}
+use Rattle.table.proofs.Sound.{header-there}
 use Rattle.book.proofs.store.book_end.Statement.{statement}
 use Rattle.book.proofs.store.book_end.Tie as tie
 
 is-over-requires : tie.Need-is-over-requires
-is-over-requires c κs = whole (now (c .before .before .args .t)) (search needs) .header
+is-over-requires c κs = header-there (now (c .before .before .args .t)) (search needs)
 
 same-length : tie.Need-same-length
 same-length c = search needs
@@ -17,7 +17,7 @@ returns : tie.Need-returns
 returns c = over-before (now (c .before .before .before .before .args .t)) (sym (c .before .is-over .ensures) ∙ c .if1 .taken)
 
 put-over-requires : tie.Need-put-over-requires
-put-over-requires c κs = whole (now (c .before .before .before .before .before .args .t)) (search needs) .header
+put-over-requires c κs = header-there (now (c .before .before .before .before .before .args .t)) (search needs)
 
 same-length-2 : tie.Need-same-length-2
 same-length-2 c = search needs

@@ -3,8 +3,8 @@ use mathlib.Core.Path.{refl, ap, _∙_}
 use native.Mathlib.Omega.{arith}
 use borrow.Author.Needs.{needs}
 use denote.Ref.{now}
+use Rattle.table.specs.Changes.{appended}
 use Rattle.book.specs.declared.Booking.the-variants.{Booked, Refused}
-use Rattle.book.specs.Bytes.{appended}
 use Rattle.book.proofs.Booked.{plan-is, carried, free-kept, one-replaced}
 use Rattle.book.proofs.store.book_line.Statement.{statement}
 use Rattle.book.proofs.store.book_line.Tie as tie

@@ -6,7 +6,7 @@ use borrow.Author.Needs.{needs}
 use denote.Ref.{now}
 use Rattle.slot.specs.Places.{SlotInside}
 use Rattle.table.proofs.Asking.{uncopied, no-room, no-order, copied, slot-of}
-use Rattle.table.proofs.Whole.{whole}
+use Rattle.table.proofs.Sound.{header-there}
 use Rattle.table.proofs.asked.copy_order.Statement.{statement}
 use Rattle.table.proofs.asked.copy_order.Tie as tie
 
@@ -24,7 +24,7 @@ returns-2 c =
     no-room (now (a .t)) (a .i) (now (a .out)) (sym (c .before .before .is-sound .ensures) ∙ not-false _ (c .before .if1 .left)) (search needs)
 
 count-requires : tie.Need-count-requires
-count-requires c κs = whole (now (c .before .before .before .before .before .args .t)) (sym (c .before .before .is-sound .ensures) ∙ not-false _ (c .before .if1 .left)) .header
+count-requires c κs = header-there (now (c .before .before .before .before .before .args .t)) (sym (c .before .before .is-sound .ensures) ∙ not-false _ (c .before .if1 .left))
 
 returns-3 : tie.Need-returns-3
 returns-3 c =

@@ -6,7 +6,7 @@ use borrow.Author.Needs.{needs}
 use denote.Ref.{now}
 use Rattle.table.proofs.Asking.{unsearched, no-key, found-at, found-nowhere}
 use Rattle.slot.proofs.Lookups.{place-is}
-use Rattle.table.proofs.Whole.{whole}
+use Rattle.table.proofs.Sound.{header-there, slots-there}
 use Rattle.table.proofs.asked.look_up.Statement.{statement}
 use Rattle.table.proofs.asked.look_up.Tie as tie
 
@@ -24,7 +24,7 @@ returns-2 c =
     no-key (now (a .t)) (now (a .key)) (sym (c .before .before .is-sound .ensures) ∙ not-false _ (c .before .if1 .left)) (c .if2 .taken)
 
 count-requires : tie.Need-count-requires
-count-requires c κs = whole (now (c .before .before .before .before .before .args .t)) (sym (c .before .before .is-sound .ensures) ∙ not-false _ (c .before .if1 .left)) .header
+count-requires c κs = header-there (now (c .before .before .before .before .before .args .t)) (sym (c .before .before .is-sound .ensures) ∙ not-false _ (c .before .if1 .left))
 
 sub-find : tie.Need-sub-find
 sub-find c = search needs
@@ -47,8 +47,8 @@ part-find-end-2 c = search needs
 find-requires : tie.Need-find-requires
 find-requires c κs =
     let a = c .before .before .before .before .before .before .before .before .args in
-    let w = whole (now (a .t)) (sym (c .before .before .before .before .before .is-sound .ensures) ∙ not-false _ (c .before .before .before .before .if1 .left)) in
-    (omega (arith, c .before .before .count .ensures, w .slots), (search needs, search needs))
+    let there = slots-there (now (a .t)) (sym (c .before .before .before .before .before .is-sound .ensures) ∙ not-false _ (c .before .before .before .before .if1 .left)) in
+    (omega (arith, c .before .before .count .ensures, there), (search needs, search needs))
 
 enum-known-i : tie.Need-enum-known-i
 enum-known-i c = search needs

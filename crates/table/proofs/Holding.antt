@@ -19,20 +19,21 @@ use Rattle.day.specs.Machine.{place, amend}
 use Rattle.day.specs.Tables.{Table, withOrders, withOver}
 use Rattle.day.proofs.Tables.{table-eq}
 use Rattle.slot.specs.Slots.{slotBytes, termsBytes, figuresBytes, orderIn, Fits}
-use Rattle.slot.specs.Places.{slotAt, slot, SlotInside, ordersIn}
-use Rattle.table.specs.Tables.{countIn, tableIn, tailZero}
+use Rattle.slot.specs.Places.{slotAt, slot, ordersIn, SlotInside}
 use Rattle.slot.proofs.Laws.{stored-here, stored-elsewhere, header-kept, header-byte, orders-kept, orders-set, orders-append, length-orders, order-no}
 use Rattle.slot.proofs.Lookups.{at-found, amend-at}
 use Rattle.slot.proofs.Said.{length-slot}
-use Rattle.book.specs.Bytes.{changed, appended}
+use Rattle.table.specs.Changes.{changed, appended}
+use Rattle.table.specs.Tables.{countIn, limitOf, tableIn, tailZero}
+use Rattle.table.proofs.Limits.{limit-small, slot-inside, slots-inside}
 
 abbrev pub TailZero : List ℕ → ℕ → Type 0
 TailZero s k = tailZero s k ≡ true
 
 -- the bytes of a table, damaged or not
 pub record Holds (s : List ℕ) (t : Table) : Type 0 where
-  pub long : length s ≡ 40968
-  pub few : countIn s ≤ 512
+  pub meant : 0 < limitOf (length s)
+  pub few : countIn s ≤ limitOf (length s)
   pub mark : getD s 4 0 ≤ 1
   pub spare : all isZero (part s 5 3) ≡ true
   pub tails : (k : ℕ) → k < countIn s → TailZero s k
@@ -58,6 +59,9 @@ module _ (s : List ℕ) (i : ℕ) (o : Order) where
   abbrev now : List ℕ
   now = sets s (slotAt i) (slotBytes o)
 
+  same-length : length now ≡ length s
+  same-length = length-sets s (slotAt i) (slotBytes o)
+
   same-count : countIn now ≡ countIn s
   same-count = ap le (header-kept s (slotBytes o) i 0 4 (omega arith))
 
@@ -82,20 +86,25 @@ module _ (s : List ℕ) (i : ℕ) (o : Order) where
   set-holds : {t : Table} → Holds s t → i < countIn s → Fits o → Holds now (withOrders (set (t .orders) i o) t)
   set-holds {t} h l f =
       record {
-        long = length-sets s (slotAt i) (slotBytes o) ∙ h .long;
-        few = rw same-count (h .few);
+        meant = rw same-length (h .meant);
+        few = rw (same-count, same-length) (h .few);
         mark = rw same-mark (h .mark);
         spare = rw same-spare (h .spare);
-        tails = λ k m. stored-tail f (omega (arith, h .long, h .few)) k (λ d. h .tails k (rw same-count at m));
+        tails = λ k m. stored-tail f (slot-inside (length s) i (omega (arith, h .few))) k (λ d. h .tails k (rw same-count at m));
         says =
             table-eq orders (ap (λ b. eqb b 1) same-mark)
             ∙ ap (λ (t : Table). withOrders (set (t .orders) i o) t) (h .says);
       }
     where
       orders : ordersIn 0 (countIn now) now ≡ set (ordersIn 0 (countIn s) s) i o
-      orders = ap (λ n. ordersIn 0 n now) same-count ∙ orders-set s (countIn s) i o f l (omega (arith, h .long, h .few))
+      orders = ap (λ n. ordersIn 0 n now) same-count ∙ orders-set s (countIn s) i o f l (slots-inside (length s) (countIn s) (h .meant) (h .few))
 
 -- the earliest order with a key is changed
+pub length-changed : (k : Key) (f : Order → Order) (s : List ℕ) → length (changed k f s) ≡ length s
+length-changed k f s =
+    let i = place k (tableIn s .orders) - 1 in
+    length-sets s (slotAt i) (slotBytes (f (orderIn (slot s i))))
+
 pub changed-holds : {s : List ℕ} (k : Key) (f : Order → Order) (i : ℕ) → Holds s (tableIn s) → place k (tableIn s .orders) ≡ i + 1
     → AllFit (amend k f (tableIn s .orders))
     → Holds (changed k f s) (withOrders (amend k f (tableIn s .orders)) (tableIn s))
@@ -116,6 +125,14 @@ tail-kept : (s b : List ℕ) (at : ℕ) → at + length b ≤ 8 → (k : ℕ) �
 tail-kept s b at small k z = ap (all isZero) (part-after s b at (slotAt k + 75) 5 (omega arith)) ∙ z
 
 -- one order more
+pub length-appended : (o : Order) (s : List ℕ) → length (appended o s) ≡ length s
+length-appended o s =
+    length-sets (sets s (slotAt (countIn s)) (slotBytes o)) 0 (leBytes 4 (countIn s + 1)) ∙ length-sets s (slotAt (countIn s)) (slotBytes o)
+
+pub one-more : (s u v : List ℕ) (n : ℕ) (o : Order) → n ≡ countIn s → u ≡ sets s (slotAt n) (slotBytes o) → v ≡ sets u 0 (leBytes 4 (n + 1))
+    → v ≡ appended o s
+one-more s u v n o e f g = g ∙ ap (λ x. sets x 0 (leBytes 4 (n + 1))) f ∙ ap (λ m. sets (sets s (slotAt m) (slotBytes o)) 0 (leBytes 4 (m + 1))) e
+
 module _ (s : List ℕ) (o : Order) where
   abbrev stored : List ℕ
   stored = sets s (slotAt (countIn s)) (slotBytes o)
@@ -123,12 +140,12 @@ module _ (s : List ℕ) (o : Order) where
   abbrev counted : List ℕ
   counted = leBytes 4 (countIn s + 1)
 
-  pub appended-holds : {t : Table} → Holds s t → length (t .orders) < 512 → Fits o
+  pub appended-holds : {t : Table} → Holds s t → length (t .orders) < limitOf (length s) → Fits o
       → Holds (appended o s) (withOrders (t .orders ++ (o ∷ [])) t)
   appended-holds {t} h room f =
       record {
-        long = length-sets stored 0 counted ∙ same-length ∙ h .long;
-        few = rw count (omega (arith, its-count));
+        meant = rw long (h .meant);
+        few = rw (count, long) (omega (arith, its-count));
         mark = rw mark (h .mark);
         spare = rw (part-after stored counted 0 5 3 (omega arith), same-spare s (countIn s) o) (h .spare);
         tails =
@@ -144,15 +161,15 @@ module _ (s : List ℕ) (o : Order) where
       its-count = sym (length-orders 0 (countIn s) s) ∙ ap (λ (t : Table). length (t .orders)) (h .says)
 
       inside : SlotInside (countIn s) s
-      inside = omega (arith, its-count, h .long)
+      inside = slot-inside (length s) (countIn s) (omega (arith, its-count))
 
-      same-length : length stored ≡ length s
-      same-length = length-sets s (slotAt (countIn s)) (slotBytes o)
+      long : length (appended o s) ≡ length s
+      long = length-appended o s
 
       count : countIn (appended o s) ≡ countIn s + 1
       count =
-          ap le (part-whole stored counted 0 4 (omega (arith, same-length, h .long)) refl)
-          ∙ le-written 4 (countIn s + 1) (omega (arith, its-count))
+          ap le (part-whole stored counted 0 4 (omega (arith, same-length s (countIn s) o, inside)) refl)
+          ∙ le-written 4 (countIn s + 1) (omega (arith, its-count, limit-small (length s)))
 
       mark : getD (appended o s) 4 0 ≡ getD s 4 0
       mark =
@@ -169,19 +186,22 @@ module _ (s : List ℕ) (o : Order) where
 pub over-holds : {s : List ℕ} {t : Table} → Holds s t → Holds (sets s 4 (1 ∷ [])) (withOver t)
 over-holds {s} {t} h =
     record {
-      long = length-sets s 4 (1 ∷ []) ∙ h .long;
-      few = rw count (h .few);
+      meant = rw long (h .meant);
+      few = rw (count, long) (h .few);
       mark = rw mark (omega arith);
       spare = rw (part-after s (1 ∷ []) 4 5 3 (omega arith)) (h .spare);
       tails = λ k m. tail-kept s (1 ∷ []) 4 (omega arith) k (h .tails k (rw count at m));
       says = table-eq orders (ap (λ b. eqb b 1) mark) ∙ ap withOver (h .says);
     }
   where
+    long : length (sets s 4 (1 ∷ [])) ≡ length s
+    long = length-sets s 4 (1 ∷ [])
+
     count : countIn (sets s 4 (1 ∷ [])) ≡ countIn s
     count = ap le (part-before s (1 ∷ []) 4 0 4 (omega arith))
 
     mark : getD (sets s 4 (1 ∷ [])) 4 0 ≡ 1
-    mark = getD-set-same s 4 1 0 (omega (arith, h .long))
+    mark = getD-set-same s 4 1 0 (omega (arith, slots-inside (length s) 0 (h .meant) (omega arith)))
 
     orders : ordersIn 0 (countIn (sets s 4 (1 ∷ []))) (sets s 4 (1 ∷ [])) ≡ ordersIn 0 (countIn s) s
     orders = ap (λ n. ordersIn 0 n (sets s 4 (1 ∷ []))) count ∙ orders-kept s (1 ∷ []) 4 (countIn s) (omega arith)

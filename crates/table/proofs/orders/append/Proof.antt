@@ -1,9 +1,9 @@
--- `book::store::append` meets its contract.
+-- `table::orders::append` meets its contract.
 use borrow.Author.Needs.{needs}
 use denote.Ref.{now}
-use Rattle.book.proofs.Booked.{one-more}
-use Rattle.book.proofs.store.append.Statement.{statement}
-use Rattle.book.proofs.store.append.Tie as tie
+use Rattle.table.proofs.Holding.{one-more}
+use Rattle.table.proofs.orders.append.Statement.{statement}
+use Rattle.table.proofs.orders.append.Tie as tie
 
 count-requires : tie.Need-count-requires
 count-requires c κs = search needs

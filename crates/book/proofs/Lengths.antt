@@ -1,0 +1,52 @@
+-- Booking keeps the length of a table, whatever its bytes.
+use Prim.Native.Nat.{ℕ}
+use mathlib.Core.Path.{_≡_, refl, _∙_}
+use mathlib.Core.Bool.{Bool, true, false, cond}
+use mathlib.Core.List.{List, [], _∷_}
+use lib.Dec.{eqb}
+use lib.ListN.{length, replicate}
+use lib.Seq.{length-sets}
+use Rattle.refusal.specs.Answer.{Answer, value, refused}
+use Rattle.layout.specs.Line.{Said, endOfDay, line, read}
+use Rattle.layout.specs.declared.Event.{Event}
+use Rattle.layout.specs.declared.Event.the-variants.{Accepted, Executed, Cancelled, Broken, Replaced, Repriced}
+use Rattle.layout.specs.declared.Record.{Record}
+use Rattle.order.specs.Figure.{executedBy, brokenBy, cancelledBy, passedOn}
+use Rattle.order.specs.Names.{keyOf, elderKeyOf}
+use Rattle.day.specs.Machine.{place, refusalOf, withFigures, withPrice, newOrder}
+use Rattle.table.specs.Changes.{changed}
+use Rattle.table.specs.Tables.{limitOf, tableIn, sound}
+use Rattle.table.proofs.Holding.{length-changed, length-appended}
+use Rattle.book.specs.Bytes.{eventBytes, acceptBytes, readBytes, bookBytes, bytesAfter}
+
+either-way : (b : Bool) (x s : List ℕ) → length x ≡ length s → length (cond b x s) ≡ length s
+either-way true x s e = e
+either-way false x s e = refl
+
+event-length : (e : Event) (r : Record) (s : List ℕ) → length (eventBytes e r s) ≡ length s
+event-length Accepted r s = length-appended (newOrder r (r .contracts) 0) s
+event-length (Executed t) r s = length-changed (keyOf r) (withFigures (λ f. executedBy f (r .contracts))) s
+event-length Cancelled r s = length-changed (keyOf r) (withFigures (λ f. cancelledBy f (r .contracts))) s
+event-length (Broken t) r s = length-changed (keyOf r) (withFigures (λ f. brokenBy f (r .contracts))) s
+event-length Replaced r s =
+    let k = elderKeyOf r in
+    let f = withFigures passedOn in
+    length-appended (newOrder r (r .contracts) (place k (tableIn s .orders))) (changed k f s) ∙ length-changed k f s
+event-length Repriced r s = length-changed (keyOf r) (withPrice (r .price)) s
+
+accept-length : (x : Said) (s : List ℕ) → length (acceptBytes x s) ≡ length s
+accept-length endOfDay s = length-sets s 4 (1 ∷ [])
+accept-length (line r) s = event-length (r .event) r s
+
+read-length : (a : Answer Said) (s : List ℕ) → length (readBytes a s) ≡ length s
+read-length (value x) s = either-way (eqb (refusalOf (limitOf (length s)) (tableIn s) x) 0) (acceptBytes x s) s (accept-length x s)
+read-length (refused n f) s = refl
+
+pub booked-length : (s p : List ℕ) → length (bookBytes s p) ≡ length s
+unfolding bookBytes
+booked-length s p = either-way (sound s) (readBytes (read p) s) s (read-length (read p) s)
+
+-- and so does a day
+pub day-length : (before : List ℕ) (ps : List (List ℕ)) → length (bytesAfter before ps) ≡ length before
+day-length before [] = length-sets before 0 (replicate 8 0)
+day-length before (p ∷ ps) = booked-length (bytesAfter before ps) p ∙ day-length before ps
