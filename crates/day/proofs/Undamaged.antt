@@ -8,8 +8,8 @@ use borrow.Author.Tests.{leb-true, le-leb}
 use lib.Dec.{leb}
 use lib.ListN.{length, getD, length-append}
 use Rattle.run.specs.Runs.{member}
-use Rattle.layout.specs.Records.{one}
-use Rattle.layout.specs.Rule.{code, price, num, lawful}
+use Rattle.message.specs.Rule.{code, price, num, lawful}
+use Rattle.message.specs.Values.{one}
 use Rattle.layout.specs.Layout.{sides}
 use Rattle.order.specs.Figure.{Sound}
 use Rattle.order.specs.declared.Figures.{Figures}

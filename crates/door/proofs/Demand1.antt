@@ -16,12 +16,12 @@ use Rattle.refusal.specs.Numbers.{numberOf, fieldOf}
 use Rattle.refusal.proofs.OneNumber.{byNumber}
 use Rattle.refusal.specs.declared.Refusal.{Refusal}
 use Rattle.refusal.specs.declared.Refusal.the-variants.{NoLine, BadByte, Field, NoRoom, Damaged, UnknownKey}
+use Rattle.message.specs.First.{First}
+use Rattle.message.specs.Rule.{num, lawful}
 use Rattle.layout.specs.Clocks.{clock}
-use Rattle.layout.specs.Demand2.{First}
 use Rattle.layout.specs.Layout.{timestamp, denominators}
 use Rattle.layout.specs.Line.{Said, outAfter, unlawful}
 use Rattle.layout.specs.Line.{read as readLine}
-use Rattle.layout.specs.Rule.{num, lawful}
 use Rattle.layout.specs.Strikes.{unit, lawfulStrike, strikeValue, formUnder, strikeForm}
 use Rattle.layout.specs.declared.Clock.{Clock}
 use Rattle.layout.specs.declared.Record.{Record}
@@ -65,7 +65,7 @@ none : {P : Type 0} → true ≡ false → P
 none e = absurd (false≢true (sym e))
 
 -- the first field that fails
-first-told : {A : Type 0} {test : ℕ → Bool} {n : ℕ} → First test n → Told {A = A} (refused 3 n)
+first-told : {A : Type 0} {test : ℕ → Bool} {n : ℕ} → First 24 test n → Told {A = A} (refused 3 n)
 first-told {n = n} h = field n (is-between 1 24 n (h .least) (h .most))
 
 -- a piece that is refused

@@ -8,8 +8,8 @@ use borrow.Author.Tests.{lt-ltb, le-ltb, ltb-true, ltb-false}
 use lib.Dec.{ltb, eqb}
 use lib.ListN.{length}
 use Rattle.refusal.specs.Answer.{Answer, value, refused}
-use Rattle.layout.proofs.First.{firstOf, judged, Says, judged-says, every-judged, first-judged}
 use Rattle.image.specs.Images.{stands, unwritable}
+use Rattle.message.proofs.First.{firstOf, judged, Says, judged-says, every-judged, first-judged}
 use Rattle.image.proofs.Foremost.{stands-first}
 use Rattle.image.proofs.Sooner.{other-length}
 use Rattle.door.specs.FirstField.{FirstField}
@@ -49,8 +49,8 @@ short b before e = go (ltb (length before) 140) refl
     go true q = ltb-true (length before) 140 q
     go false q = absurd (by-field (unwritable b) (sym (roomy b before (ltb-false (length before) 140 q)) ∙ e))
 
-says : {a : Answer (Unit {0})} (b before : List ℕ) → length b ≡ 138 → 140 ≤ length before → writeAnswer b before ≡ a → Says (stands b) tt a
-says b before w h e = subst (Says (stands b) tt) (sym (judges b before w h) ∙ e) (judged-says (stands b) tt)
+says : {a : Answer (Unit {0})} (b before : List ℕ) → length b ≡ 138 → 140 ≤ length before → writeAnswer b before ≡ a → Says 24 (stands b) tt a
+says b before w h e = subst (Says 24 (stands b) tt) (sym (judges b before w h) ∙ e) (judged-says 24 (stands b) tt)
 
 pub first-field : FirstField
 first-field =
@@ -58,8 +58,8 @@ first-field =
       no-room = λ b before. (short b before, no-room b before);
       named = λ b before n w. (
         λ e. let h = has-room b before n e in (h, says b before w h e .1),
-        λ h. judges b before w (h .0) ∙ first-judged (stands b) tt n (h .1),
+        λ h. judges b before w (h .0) ∙ first-judged 24 (stands b) tt n (h .1),
       );
-      written = λ b before w h. (λ e. says b before w h e .0, λ k. judges b before w h ∙ every-judged (stands b) tt k);
+      written = λ b before w h. (λ e. says b before w h e .0, λ k. judges b before w h ∙ every-judged 24 (stands b) tt k);
       other-length = λ b before n h. roomy b before h ∙ rw (← other-length b n);
     }

@@ -11,26 +11,27 @@ use lib.ListN.{length, getD, take, drop}
 use lib.Seq.{length-take-le}
 use Rattle.run.specs.Runs.{part, all, isZero}
 use Rattle.refusal.specs.Answer.{value}
+use Rattle.message.specs.Fields.{fieldAt}
+use Rattle.message.specs.Rule.{writes, lawful}
 use Rattle.cell.specs.Cells.{le, leBytes}
 use Rattle.run.proofs.Tests.{both}
 use Rattle.run.proofs.Parts.{getD-part, part-part}
 use Rattle.cell.proofs.Laws.{le-written}
 use Rattle.field.proofs.Fill.{between}
-use Rattle.layout.specs.Demand2.{LawfulRecord}
+use Rattle.layout.specs.Demand2.{fieldHeld, LawfulRecord}
 use Rattle.layout.specs.Layout.{isTrade, leastStrike, tradeId}
-use Rattle.layout.specs.Line.{line, read, lineOf, rowsFor}
-use Rattle.layout.specs.Records.{typeOf, eventOf, noTrade, tradeOf, matchOf, crossOf, fieldsOf}
-use Rattle.layout.specs.Rule.{num, writes, lawful}
+use Rattle.layout.specs.Line.{line, read, lineOf, layoutFor}
+use Rattle.layout.specs.Records.{typeOf, eventOf, noTrade, tradeOf, matchOf, crossOf}
 use Rattle.layout.specs.declared.Event.{Event}
 use Rattle.layout.specs.declared.Event.the-variants.{Accepted, Executed, Cancelled, Broken, Replaced, Repriced}
 use Rattle.layout.specs.declared.Record.{Record}
 use Rattle.layout.specs.declared.Trade.{Trade}
-use Rattle.layout.proofs.Answers.{read-back, length-line}
+use Rattle.layout.proofs.Answers.{read-back, length-line, none-unlawful}
 use Rattle.record.proofs.Events.{type-lawful, liquidity-text}
 use Rattle.image.specs.Images.{imageOf, oddId, recordIn, unmeant, unwritable}
 use Rattle.image.proofs.Cells.{cells, cellAt, apart, clear, numbers-are-cells, length-cells, part-apart, part-cell}
 use Rattle.image.proofs.Odd.{all-meant}
-use Rattle.image.proofs.Rows.{rowOf, all-lawful, field-bytes}
+use Rattle.image.proofs.Fields.{field-bytes}
 use Rattle.image.proofs.Sooner.{rule-in-the-way}
 
 -- ---- the bytes of a number past those that it needs
@@ -92,16 +93,18 @@ module _ (r : Record) (h : LawfulRecord r) where
   unfolding imageOf
   image-length = ap length (numbers-are-cells r (take 138 (lineOf r))) ∙ length-cells (cells r) (take 138 (lineOf r)) ∙ front-length
 
-  -- field k + 1, which is no number
-  pub kept-field : (k : ℕ) → k < 24 → let place = rowOf (rowsFor r) k in apart (place .at) (place .len) (cells r) ≡ true → leb (place .at + place .len) 138 ≡ true
-      → part image (place .at) (place .len) ≡ writes (place .rule) (place .len) (getD (fieldsOf r) k (num 0))
+  -- field n, which is no number
+  pub kept-field : (n : ℕ) → (leb 1 n && leb n 24) ≡ true
+      → let f = fieldAt (layoutFor r) n in apart (f .at) (f .len) (cells r) ≡ true → leb (f .at + f .len) 138 ≡ true
+      → part image (f .at) (f .len) ≡ writes (f .rule) (f .len) (fieldHeld r n)
   unfolding imageOf
-  kept-field k m a f =
-      let place = rowOf (rowsFor r) k in
-      ap (λ b. part b (place .at) (place .len)) (numbers-are-cells r (take 138 (lineOf r)))
-      ∙ part-apart (cells r) (take 138 (lineOf r)) (place .at) (place .len) a
-      ∙ part-part (lineOf r) 0 138 (place .at) (place .len) (leb-true (place .at + place .len) 138 f)
-      ∙ rw zero-add (field-bytes r h k m)
+  kept-field n m a g =
+      let f = fieldAt (layoutFor r) n in
+      let b = between 1 24 n m in
+      ap (λ b. part b (f .at) (f .len)) (numbers-are-cells r (take 138 (lineOf r)))
+      ∙ part-apart (cells r) (take 138 (lineOf r)) (f .at) (f .len) a
+      ∙ part-part (lineOf r) 0 138 (f .at) (f .len) (leb-true (f .at + f .len) 138 g)
+      ∙ rw zero-add (field-bytes r h n (b .0) (b .1))
 
   pub number-cell : (k : ℕ) → clear 138 (cells r) k ≡ true
       → let c = cellAt (cells r) k in part image (c .at) (c .len) ≡ leBytes (c .len) (c .number)
@@ -122,10 +125,10 @@ module _ (r : Record) (h : LawfulRecord r) where
   -- ---- field by field
 
   type-back : getD image 8 0 ≡ typeOf (r .event)
-  type-back = one-byte 8 (typeOf (r .event)) (kept-field 1 (omega arith) refl refl)
+  type-back = one-byte 8 (typeOf (r .event)) (kept-field 2 refl refl refl)
 
   liquidity-back : getD image 15 0 ≡ tradeOf (r .event) .liquidity
-  liquidity-back = one-byte 15 (tradeOf (r .event) .liquidity) (kept-field 5 (omega arith) refl refl ∙ sym (liquidity-text (r .event)))
+  liquidity-back = one-byte 15 (tradeOf (r .event) .liquidity) (kept-field 6 refl refl refl ∙ sym (liquidity-text (r .event)))
 
   price-small : r .price < 256 ^ 8
   price-small = omega (arith, ltb-true (r .price) (10 ^ 10) (h .fields 22 (omega arith) (omega arith)))
@@ -178,29 +181,29 @@ module _ (r : Record) (h : LawfulRecord r) where
       record {
         timestamp = number-back 0 8 8 (r .timestamp) (omega arith) (number-cell 0 refl) refl (small (256 ^ 8) 0 86399999 (r .timestamp) (h .fields 1 (omega arith) (omega arith)) (omega arith)) i;
         event = event-said i;
-        firm = kept-field 2 (omega arith) refl refl i;
-        capacity = one-byte 13 (r .capacity) (kept-field 3 (omega arith) refl refl) i;
-        position = one-byte 14 (r .position) (kept-field 4 (omega arith) refl refl) i;
-        account = kept-field 6 (omega arith) refl refl i;
-        member = kept-field 7 (omega arith) refl refl i;
-        clearing = kept-field 8 (omega arith) refl refl i;
-        source = kept-field 9 (omega arith) refl refl i;
-        token = kept-field 10 (omega arith) refl refl i;
-        replaced = kept-field 11 (omega arith) refl refl i;
-        reference = kept-field 12 (omega arith) refl refl i;
-        side = one-byte 85 (r .side) (kept-field 13 (omega arith) refl refl) i;
+        firm = kept-field 3 refl refl refl i;
+        capacity = one-byte 13 (r .capacity) (kept-field 4 refl refl refl) i;
+        position = one-byte 14 (r .position) (kept-field 5 refl refl refl) i;
+        account = kept-field 7 refl refl refl i;
+        member = kept-field 8 refl refl refl i;
+        clearing = kept-field 9 refl refl refl i;
+        source = kept-field 10 refl refl refl i;
+        token = kept-field 11 refl refl refl i;
+        replaced = kept-field 12 refl refl refl i;
+        reference = kept-field 13 refl refl refl i;
+        side = one-byte 85 (r .side) (kept-field 14 refl refl refl) i;
         contracts = number-back 86 6 6 (r .contracts) (omega arith) (number-cell 1 refl) refl (small (256 ^ 6) 1 999999 (r .contracts) (h .fields 15 (omega arith) (omega arith)) (omega arith)) i;
-        root = kept-field 15 (omega arith) refl refl i;
-        month = one-byte 98 (r .month) (kept-field 16 (omega arith) refl refl) i;
+        root = kept-field 16 refl refl refl i;
+        month = one-byte 98 (r .month) (kept-field 17 refl refl refl) i;
         date = number-back 99 2 2 (r .date) (omega arith) (number-cell 2 refl) refl (small (256 ^ 2) 1 31 (r .date) (h .fields 18 (omega arith) (omega arith)) (omega arith)) i;
         year = number-back 101 2 2 (r .year) (omega arith) (number-cell 3 refl) refl (small (256 ^ 2) 0 99 (r .year) (h .fields 19 (omega arith) (omega arith)) (omega arith)) i;
-        denominator = one-byte 103 (r .denominator) (kept-field 19 (omega arith) refl refl) i;
+        denominator = one-byte 103 (r .denominator) (kept-field 20 refl refl refl) i;
         strike = number-back 104 6 6 (r .strike) (omega arith) (number-cell 4 refl) refl (small (256 ^ 6) (leastStrike (r .denominator)) 999999 (r .strike) (h .fields 21 (omega arith) (omega arith)) (omega arith)) i;
         price = number-back 110 8 10 (r .price) (omega arith) (number-cell 5 refl) refl price-small i;
       }
 
   lawful-writable : unwritable image ≡ 0
-  lawful-writable = sym (rule-in-the-way image image-length lawful-meant) ∙ rw lawful-said (all-lawful r h)
+  lawful-writable = sym (rule-in-the-way image image-length lawful-meant) ∙ rw lawful-said (none-unlawful r .1 h)
 
 pub back : (p : List ℕ) (r : Record) → read p ≡ value (line r) → (unwritable (imageOf r) ≡ 0) × (recordIn (imageOf r) ≡ r)
 back p r e = let h = read-back p r e .0 in (lawful-writable r h, lawful-said r h)

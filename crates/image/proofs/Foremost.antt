@@ -11,8 +11,8 @@ use lib.ListN.{length}
 use Rattle.layout.specs.Demand2.{holds}
 use Rattle.layout.specs.Line.{unlawful}
 use Rattle.layout.specs.declared.Record.{Record}
-use Rattle.layout.proofs.First.{firstOf}
 use Rattle.image.specs.Images.{odd, recordIn, sooner, stands, unmeant, unwritable}
+use Rattle.message.proofs.First.{firstOf}
 use Rattle.image.proofs.Sooner.{in-the-way}
 
 -- ---- the lesser of two fields, where one is known to be no later

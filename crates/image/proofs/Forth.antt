@@ -9,40 +9,40 @@ use lib.Dec.{ltb, eqb}
 use lib.ListN.{length, getD, take, drop, take-append-drop, drop-of-length-le}
 use lib.Seq.{drop-cons, drop-drop}
 use Rattle.run.specs.Runs.{part, all, isZero, member}
+use Rattle.message.specs.Fields.{Field, placed, width}
 use Rattle.cell.specs.Cells.{le, leBytes}
 use Rattle.run.proofs.Tests.{both, either, neither}
 use Rattle.run.proofs.Parts.{length-part, part-part}
 use Rattle.cell.proofs.Laws.{le-read}
 use Rattle.layout.specs.Demand2.{LawfulRecord}
-use Rattle.layout.specs.Layout.{Row, isTrade, placed, types}
-use Rattle.layout.specs.Line.{rowsFor}
+use Rattle.layout.specs.Layout.{isTrade, types}
+use Rattle.layout.specs.Line.{layoutFor}
 use Rattle.layout.specs.Records.{typeOf, eventOf, noTrade, tradeOf}
 use Rattle.layout.specs.declared.Trade.{Trade}
-use Rattle.layout.proofs.Rows.{width}
+use Rattle.layout.proofs.Answers.{none-unlawful}
 use Rattle.record.proofs.Events.{liquidity-text}
 use Rattle.image.specs.Images.{imageOf, isBytes, oddId, recordIn, unwritable}
 use Rattle.image.proofs.Back.{image-length, kept-field, number-cell}
 use Rattle.image.proofs.Odd.{Meant, meant}
-use Rattle.image.proofs.Rows.{none-unlawful}
 use Rattle.image.proofs.Sooner.{writable}
 
--- ---- runs that hold the same bytes in every row
+-- ---- runs that hold the same bytes in every field
 
 infixr 3 _also_
-data Same (x y : List ℕ) : List Row → Type 0 where
+data Same (x y : List ℕ) : List Field → Type 0 where
   none : Same x y []
-  _also_ : {r : Row} {rs : List Row} → part x (r .at) (r .len) ≡ part y (r .at) (r .len) → Same x y rs → Same x y (r ∷ rs)
+  _also_ : {r : Field} {rs : List Field} → part x (r .at) (r .len) ≡ part y (r .at) (r .len) → Same x y rs → Same x y (r ∷ rs)
 
 split : (x : List ℕ) (at w : ℕ) → drop at x ≡ part x at w ++ drop (at + w) x
 split x at w = sym (take-append-drop w (drop at x)) ∙ ap (λ l. part x at w ++ l) (drop-drop w at x)
 
-same-rows : (n at : ℕ) (rows : List Row) (x y : List ℕ) → placed n at rows ≡ true → length x ≤ at + width rows → length y ≤ at + width rows → Same x y rows
+same-fields : (n at : ℕ) (fields : List Field) (x y : List ℕ) → placed n at fields ≡ true → length x ≤ at + width fields → length y ≤ at + width fields → Same x y fields
     → drop at x ≡ drop at y
-same-rows n at [] x y p h k none = drop-of-length-le x {i = at} (omega arith) ∙ sym (drop-of-length-le y {i = at} (omega arith))
-same-rows n at (r ∷ rs) x y p h k (e also s) =
+same-fields n at [] x y p h k none = drop-of-length-le x {i = at} (omega arith) ∙ sym (drop-of-length-le y {i = at} (omega arith))
+same-fields n at (r ∷ rs) x y p h k (e also s) =
     let a = both (eqb (r .no) n && eqb (r .at) at) (placed (n + 1) (at + r .len) rs) p in
     let here = eqb-true (r .at) at (both (eqb (r .no) n) (eqb (r .at) at) (a .0) .1) in
-    let rest = same-rows (n + 1) (at + r .len) rs x y (a .1) (omega arith) (omega arith) s in
+    let rest = same-fields (n + 1) (at + r .len) rs x y (a .1) (omega arith) (omega arith) s in
     split x at (r .len) ∙ ap₂ (λ (f g : List ℕ). f ++ g) (rw here at e) rest ∙ sym (split y at (r .len))
 
 -- ---- a number and the zeros behind it
@@ -114,7 +114,7 @@ module _ (b : List ℕ) (bytes : isBytes b) (free : unwritable b ≡ 0) where
   whole = writable b free .0
 
   pub lawful : LawfulRecord (recordIn b)
-  lawful = none-unlawful (recordIn b) (writable b free .1 .1)
+  lawful = none-unlawful (recordIn b) .0 (writable b free .1 .1)
 
   meanings : Meant b
   meanings = meant b (writable b free .1 .0)
@@ -151,27 +151,27 @@ module _ (b : List ℕ) (bytes : isBytes b) (free : unwritable b ≡ 0) where
       let field = kept-field r lawful in
       let cell = number-cell r lawful in
       let liquid = of-trade (λ t. t .liquidity) (meanings .of-liquidity) in
-      same-rows 1 0 (rowsFor r) (imageOf r) b refl (omega (arith, image-length r lawful)) (omega (arith, whole))
+      same-fields 1 0 (layoutFor r) (imageOf r) b refl (omega (arith, image-length r lawful)) (omega (arith, whole))
       (cell 0 refl ∙ number 0 8 0 (omega arith) refl
-      also field 1 (omega arith) refl refl ∙ ap (λ t. t ∷ []) type-byte ∙ byte 8 (omega arith)
-      also field 2 (omega arith) refl refl
-      also field 3 (omega arith) refl refl ∙ byte 13 (omega arith)
-      also field 4 (omega arith) refl refl ∙ byte 14 (omega arith)
-      also field 5 (omega arith) refl refl ∙ sym (liquidity-text (r .event)) ∙ ap (λ t. t ∷ []) liquid ∙ byte 15 (omega arith)
-      also field 6 (omega arith) refl refl
-      also field 7 (omega arith) refl refl
-      also field 8 (omega arith) refl refl
-      also field 9 (omega arith) refl refl
-      also field 10 (omega arith) refl refl
-      also field 11 (omega arith) refl refl
-      also field 12 (omega arith) refl refl
-      also field 13 (omega arith) refl refl ∙ byte 85 (omega arith)
+      also field 2 refl refl refl ∙ ap (λ t. t ∷ []) type-byte ∙ byte 8 (omega arith)
+      also field 3 refl refl refl
+      also field 4 refl refl refl ∙ byte 13 (omega arith)
+      also field 5 refl refl refl ∙ byte 14 (omega arith)
+      also field 6 refl refl refl ∙ sym (liquidity-text (r .event)) ∙ ap (λ t. t ∷ []) liquid ∙ byte 15 (omega arith)
+      also field 7 refl refl refl
+      also field 8 refl refl refl
+      also field 9 refl refl refl
+      also field 10 refl refl refl
+      also field 11 refl refl refl
+      also field 12 refl refl refl
+      also field 13 refl refl refl
+      also field 14 refl refl refl ∙ byte 85 (omega arith)
       also cell 1 refl ∙ number 86 6 0 (omega arith) refl
-      also field 15 (omega arith) refl refl
-      also field 16 (omega arith) refl refl ∙ byte 98 (omega arith)
+      also field 16 refl refl refl
+      also field 17 refl refl refl ∙ byte 98 (omega arith)
       also cell 2 refl ∙ number 99 2 0 (omega arith) refl
       also cell 3 refl ∙ number 101 2 0 (omega arith) refl
-      also field 19 (omega arith) refl refl ∙ byte 103 (omega arith)
+      also field 20 refl refl refl ∙ byte 103 (omega arith)
       also cell 4 refl ∙ number 104 6 0 (omega arith) refl
       also cell 5 refl ∙ number 110 8 2 (omega arith) (meanings .of-price)
       also cell 6 refl ∙ id 120 (tradeOf (r .event) .«match_id») (omega arith) (meanings .of-match) (of-trade (λ t. t .«match_id»))

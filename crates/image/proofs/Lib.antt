@@ -5,7 +5,7 @@ pub mod Stores
 -- The first byte of a record without meaning
 pub mod Odd
 -- A lawful record stands in its line field by field
-pub mod Rows
+pub mod Fields
 -- The field that stands in the way of writing
 pub mod Sooner
 -- A record that a line says returns from its bytes

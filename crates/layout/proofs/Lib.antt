@@ -1,11 +1,5 @@
--- One field reads back as written, at every width
-pub mod Rules
--- Fields one behind another, of any number
-pub mod Rows
 -- A record and its 24 fields are one to one
 pub mod Values
--- Which field fails soonest, and what that answer says
-pub mod First
 -- A lawful piece says a lawful record, and conversely
 pub mod Lines
 -- What reading and writing say, case by case

@@ -2,7 +2,7 @@
 use Prim.Native.Nat.{ℕ, _≤_}
 use native.Mathlib.Nat.{add-zero}
 use native.Mathlib.Omega.{arith}
-use mathlib.Core.Path.{_≡_, refl, sym, ap, ap₂, subst, subst₂, _∙_}
+use mathlib.Core.Path.{_≡_, refl, sym, ap, ap₂, subst, _∙_}
 use mathlib.Core.Bool.{Bool, true, false, cond, false≢true}
 use mathlib.Core.List.{List, [], _∷_, _++_}
 use borrow.Author.Tests.{eqb-true}
@@ -12,20 +12,22 @@ use lib.Seq.{take-at, drop-at, getD-drop}
 use Rattle.run.specs.Runs.{part, same, all, member}
 use Rattle.field.specs.Byte.{isOf}
 use Rattle.field.specs.declared.Class.the-variants.{Printable}
-use Rattle.layout.specs.Demand2.{rowAt, isGot, keeps, holds, LawfulLine, LawfulRecord}
-use Rattle.layout.specs.Layout.{Row, layout, types, liquidities, denominators, isTrade, isReplace, idNumber, firstUnlawful, writeRows, placed, fitting}
-use Rattle.layout.specs.Line.{crlf, isLine, printable, rowsOf, rowsFor, lineOf}
-use Rattle.layout.specs.Records.{typeOf, fieldsOf, recordOf, runOf, byteAt}
-use Rattle.layout.specs.Rule.{Rule, code, kept, text, blank, Value, gotRun, reads, fits}
+use Rattle.message.specs.Exact.{LawfulValues, Exact}
+use Rattle.message.specs.Fields.{Field, placed, fitting, say, readFields, writeFields}
+use Rattle.message.specs.Rule.{Rule, code, kept, text, blank, Value, got, reads, fits}
+use Rattle.message.specs.Values.{runOf, byteAt}
+use Rattle.layout.specs.Demand2.{LawfulLine, LawfulRecord}
+use Rattle.layout.specs.Layout.{layout, types, liquidities, denominators, isTrade, isReplace, idNumber}
+use Rattle.layout.specs.Line.{crlf, isLine, printable, layoutOf, layoutFor, lineOf}
+use Rattle.layout.specs.Records.{typeOf, fieldsOf, recordOf}
 use Rattle.layout.specs.declared.Record.{Record}
 use Rattle.run.proofs.Tests.{both}
 use Rattle.run.proofs.Sameness.{same-true}
-use Rattle.layout.proofs.First.{first-every, every-first}
-use Rattle.layout.proofs.Rows.{tiles, tiles-from, readsAt, valueOf, told, firstBroken}
-use Rattle.layout.proofs.Rows.{Lawful, lawful-first, first-lawful, told-lawful, lawful-width, lawful-printable, lawful-told}
-use Rattle.layout.proofs.Values.{record-fields, fields-record}
+use Rattle.message.proofs.Exact.{exact, lawful-from}
+use Rattle.message.proofs.Rules.{got-run}
+use Rattle.layout.proofs.Values.{fields-record}
 
--- ---- the table: on its rows, 1 to 24, `firstBroken` and `firstUnlawful` compute to `firstOf` of the tests `keeps` and `holds`
+-- ---- the table is one whose fields are placed one behind another and whose rules fit
 
 fits-either : (t : Bool) (a b : Rule) (w : ℕ) → fits a w ≡ true → fits b w ≡ true → fits (cond t a b) w ≡ true
 fits-either true a b w x y = x
@@ -41,41 +43,39 @@ fitting-layout t d = rw (
   fits-either (isTrade t) idNumber (kept blank) 9 refl refl,
 )
 
-tiles-layout : (t d : ℕ) → tiles 1 0 (layout t d) ≡ true
-tiles-layout t d = tiles-from 1 0 (layout t d) (placed-layout t d) (fitting-layout t d)
+exact-layout : (t d : ℕ) → Exact (layout t d)
+exact-layout t d = exact (layout t d) (placed-layout t d) (fitting-layout t d)
+
+pub exact-of : (s : List ℕ) → Exact (layoutOf s)
+exact-of s = exact-layout (getD s 8 0) (getD s 103 0)
+
+pub exact-for : (r : Record) → Exact (layoutFor r)
+exact-for r = exact-layout (typeOf (r .event)) (r .denominator)
 
 -- ---- the codes by which a layout goes
 
-code-first : (codes l : List ℕ) → let g = reads (code codes) (take 1 l) in isGot g ≡ true
-    → (getD (runOf (valueOf g)) 0 0 ≡ getD l 0 0) × (member (getD l 0 0) codes ≡ true)
-code-first codes [] e = absurd (false≢true e)
-code-first codes (b ∷ l) e = go (member b codes) refl e
-  where
-    go : (t : Bool) → member b codes ≡ t → isGot (gotRun t (b ∷ [])) ≡ true
-        → (getD (runOf (valueOf (gotRun t (b ∷ [])))) 0 0 ≡ b) × (member b codes ≡ true)
-    go true m e = (refl, m)
-    go false m e = absurd (false≢true e)
+code-first : (codes l : List ℕ) (v : Value) → reads (code codes) (take 1 l) ≡ got v
+    → (getD (runOf v) 0 0 ≡ getD l 0 0) × (member (getD l 0 0) codes ≡ true)
+code-first codes [] v e = absurd (false≢true (got-run false [] v e .1))
+code-first codes (b ∷ l) v e = let g = got-run (member b codes) (b ∷ []) v e in rw (g .0) (refl, g .1)
 
-code-at : (codes s : List ℕ) (at : ℕ) → let g = reads (code codes) (part s at 1) in isGot g ≡ true
-    → (getD (runOf (valueOf g)) 0 0 ≡ getD s at 0) × (member (getD s at 0) codes ≡ true)
-code-at codes s at e =
+code-at : (codes s : List ℕ) (at : ℕ) (v : Value) → reads (code codes) (part s at 1) ≡ got v
+    → (getD (runOf v) 0 0 ≡ getD s at 0) × (member (getD s at 0) codes ≡ true)
+code-at codes s at v e =
     let q : getD (drop at s) 0 0 ≡ getD s at 0 = getD-drop at s 0 0 ∙ rw add-zero in
-    rw q at (code-first codes (drop at s) e)
+    rw q at (code-first codes (drop at s) v e)
 
--- a piece that breaks no rule of a layout says its own bytes 8 and 103, and the former is a type
-own-codes : (t d : ℕ) (s : List ℕ) → firstBroken (layout t d) s ≡ 0
-    → let vs = told (layout t d) s in (byteAt vs 1 ≡ getD s 8 0) × (byteAt vs 19 ≡ getD s 103 0) × (member (getD s 8 0) types ≡ true)
-own-codes t d s e =
-    let h = first-every (λ n. isGot (readsAt s (rowAt (layout t d) n))) e in
-    let a = code-at types s 8 (h 2 (omega arith) (omega arith)) in
-    (a .0, code-at denominators s 103 (h 20 (omega arith) (omega arith)) .0, a .1)
+-- a piece of which a layout says values says its own bytes 8 and 103 there, and the former is a type
+module _ (t d : ℕ) (s : List ℕ) (vs : List Value) (e : readFields (layout t d) [] s ≡ say vs) where
+  type-said : (byteAt vs 1 ≡ getD s 8 0) × (member (getD s 8 0) types ≡ true)
+  type-said = code-at types s 8 (getD vs 1 _) (exact-layout t d .says s vs e 2 (omega arith) (omega arith))
 
--- so the layout of that piece goes by the codes that it says
-own-layout : (t d : ℕ) (s : List ℕ) (vs : List Value) → firstBroken (layout t d) s ≡ 0 → told (layout t d) s ≡ vs
-    → rowsOf s ≡ layout (byteAt vs 1) (byteAt vs 19)
-own-layout t d s vs e q =
-    let own = own-codes t d s e in
-    ap₂ layout (sym (own .0) ∙ ap (λ (us : List Value). byteAt us 1) q) (sym (own .1) ∙ ap (λ (us : List Value). byteAt us 19) q)
+  denominator-said : byteAt vs 19 ≡ getD s 103 0
+  denominator-said = code-at denominators s 103 (getD vs 19 _) (exact-layout t d .says s vs e 20 (omega arith) (omega arith)) .0
+
+  -- so the layout of that piece goes by the codes that it says
+  own-layout : layoutOf s ≡ layout (byteAt vs 1) (byteAt vs 19)
+  own-layout = ap₂ layout (sym (type-said .0)) (sym denominator-said)
 
 -- ---- pieces
 
@@ -84,6 +84,9 @@ line-length s l = eqb-true (length s) 140 (both (eqb (length s) 140) (same (drop
 
 line-end : (s : List ℕ) → isLine s ≡ true → drop 138 s ≡ crlf
 line-end s l = same-true (drop 138 s) crlf (both (eqb (length s) 140) (same (drop 138 s) crlf) l .1)
+
+line-room : (s : List ℕ) → isLine s ≡ true → 138 ≤ length s
+line-room s l = omega (arith, line-length s l)
 
 pub other-than : (s : List ℕ) → (s ≡ crlf → ⊥) → same s crlf ≡ false
 other-than s h = go (same s crlf) refl
@@ -102,46 +105,45 @@ line-tests w n p =
 
 -- ---- from a line to its record and back
 
--- the record that a piece says
-abbrev pub recordIn : List ℕ → Record
-recordIn s = recordOf (told (rowsOf s) s)
+-- a piece says a record: as each field, what the record holds there
+abbrev pub Says : List ℕ → Record → Type 0
+Says s r = readFields (layoutOf s) [] s ≡ say (fieldsOf r)
 
-pub tiles-of : (s : List ℕ) → tiles 1 0 (rowsOf s) ≡ true
-tiles-of s = tiles-layout (getD s 8 0) (getD s 103 0)
+-- what the fields of a line say is what a record holds
+pub line-says : (s : List ℕ) (vs : List Value) → isLine s ≡ true → readFields (layoutOf s) [] s ≡ say vs → Says s (recordOf vs)
+line-says s vs l e =
+    let t = getD s 8 0 in
+    let d = getD s 103 0 in
+    let own = type-said t d s vs e in
+    let law = exact-of s .read-lawful s vs e (line-room s l) in
+    let from = lawful-from (layout t d) (placed-layout t d) (fitting-layout t d) vs law in
+    e ∙ ap say (sym (fields-record t d vs (own .1) (own .0) from))
 
--- what the fields of a lawful line say: lawful values, which write to its bytes
-line-told : (s : List ℕ) → LawfulLine s → Lawful 0 (rowsOf s) (told (rowsOf s) s) × (writeRows (rowsOf s) (told (rowsOf s) s) ++ drop 138 s ≡ s)
-line-told s h =
-    let long : 138 ≤ length s = omega (arith, line-length s (h .shape)) in
-    told-lawful (rowsOf s) s 1 0 (omega arith) (tiles-of s) (every-first (keeps s) (h .fields)) long
-
--- the record holds what they say
-pub line-fields : (s : List ℕ) → LawfulLine s → fieldsOf (recordIn s) ≡ told (rowsOf s) s
-line-fields s h =
-    let own = own-codes (getD s 8 0) (getD s 103 0) s (every-first (keeps s) (h .fields)) in
-    fields-record (getD s 8 0) (getD s 103 0) (told (rowsOf s) s) (own .2) (own .0) (line-told s h .0)
-
-pub line-record : (s : List ℕ) → LawfulLine s → LawfulRecord (recordIn s) × (lineOf (recordIn s) ≡ s)
+-- that record is lawful, and writes to the very bytes
+pub said-record : (s : List ℕ) (r : Record) → isLine s ≡ true → Says s r → LawfulRecord r × (lineOf r ≡ s)
 unfolding lineOf
-line-record s h =
-    let keeping = every-first (keeps s) (h .fields) in
-    let law = line-told s h in
-    let back = line-fields s h in
-    let rows : rowsOf s ≡ rowsFor (recordIn s) = own-layout (getD s 8 0) (getD s 103 0) s (fieldsOf (recordIn s)) keeping (sym back) in
-    let holding = subst₂ (λ (rs : List Row) (us : List Value). firstUnlawful rs us ≡ 0) rows (sym back) (lawful-first (law .0)) in
-    let bytes = subst₂ (λ (rs : List Row) (us : List Value). writeRows rs us ++ crlf ≡ s) rows (sym back) (rw (line-end s (h .shape)) at (law .1)) in
-    (record { fields = first-every (holds (recordIn s)) holding }, bytes)
+said-record s r l e =
+    let x = exact-of s in
+    let own : layoutOf s ≡ layoutFor r = own-layout (getD s 8 0) (getD s 103 0) s (fieldsOf r) e in
+    let law = x .read-lawful s (fieldsOf r) e (line-room s l) in
+    let bytes : writeFields (layoutOf s) (fieldsOf r) ++ crlf ≡ s = rw (line-end s l) at (x .read-written s (fieldsOf r) e (line-room s l)) in (
+      record { fields = subst (λ (fs : List Field). LawfulValues fs (fieldsOf r)) own law .each },
+      subst (λ (fs : List Field). writeFields fs (fieldsOf r) ++ crlf ≡ s) own bytes,
+    )
 
-pub record-line : (r : Record) (s : List ℕ) → LawfulRecord r → lineOf r ≡ s → LawfulLine s × (recordIn s ≡ r)
+pub record-said : (r : Record) (s : List ℕ) → LawfulRecord r → lineOf r ≡ s → LawfulLine s × Says s r
 unfolding lineOf
-record-line r s h e =
-    let tiled = tiles-layout (typeOf (r .event)) (r .denominator) in
-    let law = first-lawful (rowsFor r) (fieldsOf r) 1 0 (omega arith) tiled refl (every-first (holds r) (h .fields)) in
-    let back = lawful-told law s crlf (sym e) in
-    let rows : rowsOf s ≡ rowsFor r = own-layout (typeOf (r .event)) (r .denominator) s (fieldsOf r) (back .0) (back .1) in
-    let keeping = subst (λ (rs : List Row). firstBroken rs s ≡ 0) (sym rows) (back .0) in
-    let says = subst (λ (rs : List Row). told rs s ≡ fieldsOf r) (sym rows) (back .1) in
-    let tests = line-tests (writeRows (rowsFor r) (fieldsOf r)) (lawful-width law) (lawful-printable law) in (
-      record { shape = ap isLine (sym e) ∙ tests .0; bytes = ap printable (sym e) ∙ tests .1; fields = first-every (keeps s) keeping },
-      ap recordOf says ∙ record-fields r,
+record-said r s h e =
+    let x = exact-for r in
+    let law : LawfulValues (layoutFor r) (fieldsOf r) = record { count = refl; each = h .fields } in
+    let back = subst (λ (l : List ℕ). readFields (layoutFor r) [] l ≡ say (fieldsOf r)) e (x .reads-back (fieldsOf r) crlf law) in
+    let own : layoutOf s ≡ layoutFor r = own-layout (typeOf (r .event)) (r .denominator) s (fieldsOf r) back in
+    let says : Says s r = subst (λ (fs : List Field). readFields fs [] s ≡ say (fieldsOf r)) (sym own) back in
+    let tests = line-tests (writeFields (layoutFor r) (fieldsOf r)) (x .wide (fieldsOf r) law) (x .printable (fieldsOf r) law) in (
+      record {
+        shape = ap isLine (sym e) ∙ tests .0;
+        bytes = ap printable (sym e) ∙ tests .1;
+        fields = exact-of s .none-broken s .1 (fieldsOf r, says);
+      },
+      says,
     )

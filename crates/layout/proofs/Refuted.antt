@@ -8,7 +8,8 @@ use Rattle.refusal.specs.Answer.{Answer, value}
 use Rattle.layout.specs.Demand2.{Demand2, LawfulLine, LawfulRecord}
 use Rattle.layout.specs.Examples.{execution, executed, replacement, replacing}
 use Rattle.layout.specs.Line.{Said, line, read}
-use Rattle.layout.specs.Records.{fieldsOf, numAt, byteAt, runAt}
+use Rattle.message.specs.Values.{numAt, byteAt, runAt}
+use Rattle.layout.specs.Records.{fieldsOf}
 use Rattle.layout.specs.Wrong.{RefusesEach, FixedAs, Changes, otherSide, otherContracts, exchanged, StoresNothing, ClearsRest, StoresWhatFits}
 use Rattle.layout.specs.declared.Record.{Record}
 use Rattle.layout.proofs.Demand2.{demand2}

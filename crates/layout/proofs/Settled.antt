@@ -10,7 +10,7 @@ use Rattle.refusal.specs.Answer.{Answer, value, refused}
 use Rattle.layout.specs.Demand2.{Demand2, fieldHeld}
 use Rattle.layout.specs.Line.{Said, endOfDay, line, read, lineOf, write, outAfter, writeInto}
 use Rattle.layout.specs.Records.{fieldsOf, recordOf}
-use Rattle.layout.specs.Rule.{num}
+use Rattle.message.specs.Rule.{num}
 use Rattle.layout.specs.Settled.{Settled}
 use Rattle.layout.specs.declared.Record.{Record}
 use Rattle.layout.proofs.Answers.{ReadRefused, read-says, field-said, read-back, no-room-write, WriteRefused, write-says}

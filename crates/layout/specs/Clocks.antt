@@ -3,7 +3,7 @@ use Prim.Native.Nat.{ℕ, _/_, _%_}
 use mathlib.Core.Bool.{cond}
 use Rattle.refusal.specs.Answer.{Answer, value, refused}
 use Rattle.layout.specs.Layout.{timestamp}
-use Rattle.layout.specs.Rule.{num, lawful}
+use Rattle.message.specs.Rule.{num, lawful}
 use Rattle.layout.specs.declared.Clock.{Clock}
 
 -- 01, What is bought: milliseconds hold

@@ -1,41 +1,33 @@
 -- The tender's demand 2, in the order of its sentences, of any reader and any writer. proofs/Demand2.antt proves it of the written rules.
-use Prim.Native.Nat.{ℕ, _-_, _≤_, _<_}
+use Prim.Native.Nat.{ℕ, _≤_, _<_}
 use mathlib.Core.Path.{_≡_}
 use mathlib.Core.Bool.{Bool, true, false}
 use mathlib.Core.List.{List, _++_}
 use mathlib.Core.Logic.{_⊎_, _↔_}
-use lib.ListN.{length, getD, drop}
-use Rattle.run.specs.Runs.{part}
+use lib.ListN.{length, drop}
 use Rattle.refusal.specs.Answer.{Answer, value, refused}
-use Rattle.layout.specs.Layout.{Row, noRow}
-use Rattle.layout.specs.Line.{Said, line, endOfDay, crlf, isLine, printable, rowsOf, rowsFor}
+use Rattle.message.specs.Fields.{gotAt, keepsAt, valueAt, holdsAt}
+use Rattle.message.specs.First.{First}
+use Rattle.message.specs.Rule.{Value, Got, got}
+use Rattle.layout.specs.Line.{Said, line, endOfDay, crlf, isLine, printable, layoutOf, layoutFor}
 use Rattle.layout.specs.Records.{fieldsOf}
-use Rattle.layout.specs.Rule.{Value, num, Got, got, broken, reads, lawful}
 use Rattle.layout.specs.declared.Record.{Record}
-
--- the row of field n, counted from 1
-abbrev pub rowAt : List Row → ℕ → Row
-rowAt rows n = getD rows (n - 1) noRow
-
-abbrev pub isGot : Got → Bool
-isGot (got v) = true
-isGot broken = false
 
 -- what the rule of field n reads in that field's bytes of a piece
 abbrev pub fieldIn : List ℕ → ℕ → Got
-fieldIn s n = reads (rowAt (rowsOf s) n .rule) (part s (rowAt (rowsOf s) n .at) (rowAt (rowsOf s) n .len))
+fieldIn s n = gotAt (layoutOf s) s n
 
 -- field n of a piece keeps its rule
 abbrev pub keeps : List ℕ → ℕ → Bool
-keeps s n = isGot (fieldIn s n)
+keeps s n = keepsAt (layoutOf s) s n
 
 -- what a record holds as field n
 abbrev pub fieldHeld : Record → ℕ → Value
-fieldHeld r n = getD (fieldsOf r) (n - 1) (num 0)
+fieldHeld r n = valueAt (fieldsOf r) n
 
 -- field n of a record holds a value that its rule allows
 abbrev pub holds : Record → ℕ → Bool
-holds r n = lawful (rowAt (rowsFor r) n .rule) (rowAt (rowsFor r) n .len) (fieldHeld r n)
+holds r n = holdsAt (layoutFor r) (fieldsOf r) n
 
 -- no rule is broken
 pub record LawfulLine (s : List ℕ) : Type 0 where
@@ -45,13 +37,6 @@ pub record LawfulLine (s : List ℕ) : Type 0 where
 
 pub record LawfulRecord (r : Record) : Type 0 where
   pub fields : (n : ℕ) → 1 ≤ n → n ≤ 24 → holds r n ≡ true
-
--- n is the first of the 24 fields of which the test fails
-pub record First (test : ℕ → Bool) (n : ℕ) : Type 0 where
-  pub least : 1 ≤ n
-  pub most : n ≤ 24
-  pub fails : test n ≡ false
-  pub before : (m : ℕ) → 1 ≤ m → m < n → test m ≡ true
 
 -- a reader answers for a piece; a writer answers for a record and a buffer, and leaves the buffer as it is afterwards
 pub record Demand2 (read : List ℕ → Answer Said) (write : Record → List ℕ → Answer (Unit {0}) × List ℕ) : Type 0 where
@@ -74,11 +59,11 @@ pub record Demand2 (read : List ℕ → Answer Said) (write : Record → List �
   -- "and everything else is refused by the first rule it breaks": reading 1, 2, 3
   pub no-line : (s : List ℕ) → (read s ≡ refused 1 0) ↔ ((s ≡ crlf → ⊥) × (isLine s ≡ false))
   pub bad-byte : (s : List ℕ) → (read s ≡ refused 2 0) ↔ ((isLine s ≡ true) × (printable s ≡ false))
-  pub bad-field : (s : List ℕ) (n : ℕ) → (read s ≡ refused 3 n) ↔ ((isLine s ≡ true) × (printable s ≡ true) × First (keeps s) n)
+  pub bad-field : (s : List ℕ) (n : ℕ) → (read s ≡ refused 3 n) ↔ ((isLine s ≡ true) × (printable s ≡ true) × First 24 (keeps s) n)
   pub other-reads : (s : List ℕ) (n f : ℕ) → read s ≡ refused n f → ((n ≡ 1) × (f ≡ 0)) ⊎ ((n ≡ 2) × (f ≡ 0)) ⊎ (n ≡ 3)
   -- writing 4, then 3
   pub no-room : (r : Record) (out : List ℕ) → (write r out .0 ≡ refused 4 0) ↔ (length out < 140)
-  pub bad-value : (r : Record) (out : List ℕ) (n : ℕ) → (write r out .0 ≡ refused 3 n) ↔ ((140 ≤ length out) × First (holds r) n)
+  pub bad-value : (r : Record) (out : List ℕ) (n : ℕ) → (write r out .0 ≡ refused 3 n) ↔ ((140 ≤ length out) × First 24 (holds r) n)
   pub other-writes : (r : Record) (out : List ℕ) (n f : ℕ) → write r out .0 ≡ refused n f → ((n ≡ 4) × (f ≡ 0)) ⊎ (n ≡ 3)
   -- a refusal leaves every byte of the buffer
   pub refused-keeps : (r : Record) (out : List ℕ) (n f : ℕ) → write r out .0 ≡ refused n f → write r out .1 ≡ out

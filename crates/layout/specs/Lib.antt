@@ -1,6 +1,4 @@
--- One field: how it is read, lawful and written
-pub mod Rule
--- The 24 fields, and how a line goes by them
+-- The 24 fields of a line
 pub mod Layout
 -- The 24 values of a line, joined and taken apart
 pub mod Records

@@ -8,7 +8,8 @@ use Rattle.run.specs.Runs.{same, all}
 use Rattle.field.specs.Byte.{isOf}
 use Rattle.field.specs.declared.Class.the-variants.{Printable}
 use Rattle.refusal.specs.Answer.{Answer, value, refused}
-use Rattle.layout.specs.Layout.{layout, Fields, breaks, say, readRows, firstUnlawful, writeRows, Row}
+use Rattle.message.specs.Fields.{Field, Fields, breaks, say, readFields, firstUnlawful, writeFields}
+use Rattle.layout.specs.Layout.{layout}
 use Rattle.layout.specs.Records.{fieldsOf, recordOf, typeOf}
 use Rattle.layout.specs.declared.Record.{Record}
 
@@ -29,8 +30,8 @@ abbrev pub printable : List ℕ → Bool
 printable s = all (isOf Printable) (take 138 s)
 
 -- the layout of a piece goes by its own type and denominator
-abbrev pub rowsOf : List ℕ → List Row
-rowsOf s = layout (getD s 8 0) (getD s 103 0)
+abbrev pub layoutOf : List ℕ → List Field
+layoutOf s = layout (getD s 8 0) (getD s 103 0)
 
 -- 01, Refusals by number: 3: with the number of the first field
 abbrev pub saidBy : Fields → Answer Said
@@ -41,19 +42,19 @@ saidBy (say vs) = value (line (recordOf vs))
 unfoldable pub read : List ℕ → Answer Said
 read s =
     cond (same s crlf) (value endOfDay)
-    (cond (isLine s) (cond (printable s) (saidBy (readRows (rowsOf s) [] s)) (refused 2 0)) (refused 1 0))
+    (cond (isLine s) (cond (printable s) (saidBy (readFields (layoutOf s) [] s)) (refused 2 0)) (refused 1 0))
 
 -- the layout of a record goes by its own type and denominator
-abbrev pub rowsFor : Record → List Row
-rowsFor r = layout (typeOf (r .event)) (r .denominator)
+abbrev pub layoutFor : Record → List Field
+layoutFor r = layout (typeOf (r .event)) (r .denominator)
 
 -- 138 bytes, then CR LF
 unfoldable pub lineOf : Record → List ℕ
-lineOf r = writeRows (rowsFor r) (fieldsOf r) ++ crlf
+lineOf r = writeFields (layoutFor r) (fieldsOf r) ++ crlf
 
 -- the first unlawful field of a record, or 0
 unfoldable pub unlawful : Record → ℕ
-unlawful r = firstUnlawful (rowsFor r) (fieldsOf r)
+unlawful r = firstUnlawful (layoutFor r) (fieldsOf r)
 
 -- 01, Order of checks: writing a record: 4 (under 140 bytes), then 3
 abbrev pub write : Record → List ℕ → Answer (Unit {0})

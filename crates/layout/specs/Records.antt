@@ -3,9 +3,10 @@ use Prim.Native.Nat.{ℕ}
 use mathlib.Core.Bool.{cond}
 use mathlib.Core.List.{List, [], _∷_}
 use lib.Dec.{eqb}
-use lib.ListN.{getD, replicate}
+use lib.ListN.{getD}
 use Rattle.run.specs.Runs.{part}
-use Rattle.layout.specs.Rule.{Value, num, run}
+use Rattle.message.specs.Rule.{Value, num, run}
+use Rattle.message.specs.Values.{one, missing, numAt, runAt, byteAt}
 use Rattle.layout.specs.declared.Event.{Event}
 use Rattle.layout.specs.declared.Event.the-variants.{Accepted, Executed, Cancelled, Broken, Replaced, Repriced}
 use Rattle.layout.specs.declared.Numbers.{Numbers}
@@ -38,14 +39,6 @@ tradeOf Cancelled = noTrade
 tradeOf (Broken t) = t
 tradeOf Replaced = noTrade
 tradeOf Repriced = noTrade
-
--- a code
-abbrev pub one : ℕ → Value
-one b = run (b ∷ [])
-
--- 01, The line: Blank: all spaces, meaning missing
-abbrev pub missing : ℕ → Value
-missing w = run (replicate w 32)
 
 abbrev pub liquidityOf : Event → Value
 liquidityOf Accepted = missing 1
@@ -99,23 +92,6 @@ fieldsOf r =
     ∷ matchOf (r .event)
     ∷ crossOf (r .event)
     ∷ []
-
-abbrev pub numOf : Value → ℕ
-numOf (num v) = v
-numOf (run b) = 0
-
-abbrev pub runOf : Value → List ℕ
-runOf (num v) = []
-runOf (run b) = b
-
-abbrev pub numAt : List Value → ℕ → ℕ
-numAt vs i = numOf (getD vs i (num 0))
-
-abbrev pub runAt : List Value → ℕ → List ℕ
-runAt vs i = runOf (getD vs i (num 0))
-
-abbrev pub byteAt : List Value → ℕ → ℕ
-byteAt vs i = getD (runAt vs i) 0 0
 
 -- the record that says the values of fields 1 to 24, which stand at 0 to 23
 abbrev pub recordOf : List Value → Record

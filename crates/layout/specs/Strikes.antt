@@ -5,7 +5,7 @@ use lib.Dec.{eqb}
 use Rattle.run.specs.Runs.{member}
 use Rattle.refusal.specs.Answer.{Answer, value, refused}
 use Rattle.layout.specs.Layout.{denominators, strikeUnder}
-use Rattle.layout.specs.Rule.{num, lawful}
+use Rattle.message.specs.Rule.{num, lawful}
 use Rattle.layout.specs.declared.Strike.{Strike}
 
 -- 10,000 (A), 1,000 (B), 100 (C), 10 (D) or 1 (E)

@@ -8,8 +8,9 @@ use lib.ListN.{length, take, drop, set, replicate}
 use Rattle.refusal.specs.Answer.{Answer, value}
 use Rattle.layout.specs.Demand2.{LawfulLine, LawfulRecord, fieldHeld}
 use Rattle.layout.specs.Line.{Said, line, read, lineOf}
-use Rattle.layout.specs.Records.{one, fieldsOf, recordOf}
-use Rattle.layout.specs.Rule.{Value, num}
+use Rattle.layout.specs.Records.{fieldsOf, recordOf}
+use Rattle.message.specs.Rule.{Value, num}
+use Rattle.message.specs.Values.{one}
 use Rattle.layout.specs.declared.Record.{Record}
 
 -- ---- readers

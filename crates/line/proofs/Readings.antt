@@ -13,8 +13,8 @@ use Rattle.run.specs.Runs.{same, all}
 use Rattle.field.specs.Byte.{isOf}
 use Rattle.field.specs.declared.Class.the-variants.{Printable}
 use Rattle.refusal.specs.declared.Refusal.the-variants.{NoLine, BadByte}
-use Rattle.layout.specs.Layout.{Fields, breaks, say, readRows}
-use Rattle.layout.specs.Line.{crlf, rowsOf, saidBy, read}
+use Rattle.message.specs.Fields.{Fields, breaks, say, readFields}
+use Rattle.layout.specs.Line.{crlf, layoutOf, saidBy, read}
 use Rattle.layout.specs.declared.Record.{Record}
 use Rattle.line.specs.Groups.{readingOf, readingFrom, noNumbers, refusedReading}
 use Rattle.line.specs.Promises.{Read, blankRecord, saidOf, unusedOf}
@@ -65,8 +65,8 @@ module _ (s : List ℕ) (r : Reading) (b : Bool) (e : b ≡ same s crlf) (f : b 
       by-fields z k =
           rw k
           (record {
-            said = rw (no-end, eq-eqb (length s) 140 h, sym tail-is ∙ q, sym a ∙ z) (said-is (readRows (rowsOf s) [] s));
-            unused = unused-is (readRows (rowsOf s) [] s);
+            said = rw (no-end, eq-eqb (length s) 140 h, sym tail-is ∙ q, sym a ∙ z) (said-is (readFields (layoutOf s) [] s));
+            unused = unused-is (readFields (layoutOf s) [] s);
           })
         where
           said-is : (g : Fields) → saidOf (readingOf g .outcome) (readingOf g .line) ≡ saidBy g

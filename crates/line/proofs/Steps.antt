@@ -14,47 +14,47 @@ use Rattle.field.specs.declared.Bytes.the-variants.{Lawful, Unlawful}
 use Rattle.field.specs.declared.Number.{Number}
 use Rattle.field.specs.declared.Number.the-variants.{Value as Number·Value, Bad}
 use Rattle.refusal.specs.declared.Refusal.{Refusal}
-use Rattle.refusal.specs.declared.Refusal.the-variants.{Field}
-use Rattle.layout.specs.Layout.{Row, noRow, breaks, readRows, onGot}
-use Rattle.layout.specs.Line.{rowsOf}
-use Rattle.layout.specs.Rule.{code, kept, Kind, isKind, Value, num, run, Got, got, broken, reads, gotNumber, gotRun}
+use Rattle.refusal.specs.declared.Refusal.the-variants.{Field as Refusal·Field}
+use Rattle.message.specs.Fields.{Field, noField, breaks, readFields, onGot}
+use Rattle.message.specs.Rule.{code, kept, Kind, isKind, Value, num, run, Got, got, broken, reads, gotNumber, gotRun}
+use Rattle.layout.specs.Line.{layoutOf}
 use Rattle.line.specs.Groups.{Says, valuesOf, readingBy, readingOf, readingFrom, refusedReading}
 use Rattle.line.specs.declared.Group.{Group}
 use Rattle.line.specs.declared.Group.the-variants.{Lawful as Group·Lawful, Refused as Group·Refused}
 use Rattle.layout.specs.declared.Numbers.{Numbers}
 use Rattle.line.specs.declared.Reading.{Reading}
 
--- the row, counted from 0, and its value
-abbrev pub rowNo : List ℕ → ℕ → Row
-rowNo s k = getD (rowsOf s) k noRow
+-- the field, counted from 0, and its value
+abbrev pub fieldOf : List ℕ → ℕ → Field
+fieldOf s k = getD (layoutOf s) k noField
 
 abbrev pub valueNo : Numbers → List ℕ → ℕ → Value
 valueNo n s k = getD (valuesOf n s) k (num 0)
 
-step : (r : Row) (rs : List Row) (vs : List Value) (s : List ℕ) (v : Value) → reads (r .rule) (part s (r .at) (r .len)) ≡ got v
-    → readRows (r ∷ rs) vs s ≡ readRows rs (vs ++ (v ∷ [])) s
-step r rs vs s v e = ap (λ (g : Got). onGot g (r .no) (λ (u : Value). readRows rs (vs ++ (u ∷ [])) s)) e
+step : (f : Field) (fs : List Field) (vs : List Value) (s : List ℕ) (v : Value) → reads (f .rule) (part s (f .at) (f .len)) ≡ got v
+    → readFields (f ∷ fs) vs s ≡ readFields fs (vs ++ (v ∷ [])) s
+step f fs vs s v e = ap (λ (g : Got). onGot g (f .no) (λ (u : Value). readFields fs (vs ++ (u ∷ [])) s)) e
 
-stop : (r : Row) (rs : List Row) (vs : List Value) (s : List ℕ) → reads (r .rule) (part s (r .at) (r .len)) ≡ broken → readRows (r ∷ rs) vs s ≡ breaks (r .no)
-stop r rs vs s e = ap (λ (g : Got). onGot g (r .no) (λ (u : Value). readRows rs (vs ++ (u ∷ [])) s)) e
+stop : (f : Field) (fs : List Field) (vs : List Value) (s : List ℕ) → reads (f .rule) (part s (f .at) (f .len)) ≡ broken → readFields (f ∷ fs) vs s ≡ breaks (f .no)
+stop f fs vs s e = ap (λ (g : Got). onGot g (f .no) (λ (u : Value). readFields fs (vs ++ (u ∷ [])) s)) e
 
 -- a field that keeps its rule leaves the answer to those behind it
 pub past : (k : ℕ) (n : Numbers) (s : List ℕ) (x : Reading) → k < 24
-    → reads (rowNo s k .rule) (part s (rowNo s k .at) (rowNo s k .len)) ≡ got (valueNo n s k)
+    → reads (fieldOf s k .rule) (part s (fieldOf s k .at) (fieldOf s k .len)) ≡ got (valueNo n s k)
     → x ≡ readingFrom (suc k) n s → x ≡ readingFrom k n s
 past k n s x h e g =
     g
-    ∙ rw (take-suc (valuesOf n s) k (num 0) h, drop-cons (rowsOf s) k noRow h)
-    (ap readingOf (sym (step (rowNo s k) (drop (suc k) (rowsOf s)) (take k (valuesOf n s)) s (valueNo n s k) e)))
+    ∙ rw (take-suc (valuesOf n s) k (num 0) h, drop-cons (layoutOf s) k noField h)
+    (ap readingOf (sym (step (fieldOf s k) (drop (suc k) (layoutOf s)) (take k (valuesOf n s)) s (valueNo n s k) e)))
 
 -- the first that breaks it is named
 pub stops : (k : ℕ) (n : Numbers) (s : List ℕ) (x : Reading) → k < 24
-    → reads (rowNo s k .rule) (part s (rowNo s k .at) (rowNo s k .len)) ≡ broken
-    → x ≡ refusedReading (Field (rowNo s k .no)) → x ≡ readingFrom k n s
+    → reads (fieldOf s k .rule) (part s (fieldOf s k .at) (fieldOf s k .len)) ≡ broken
+    → x ≡ refusedReading (Refusal·Field (fieldOf s k .no)) → x ≡ readingFrom k n s
 stops k n s x h e g =
     g
-    ∙ rw (drop-cons (rowsOf s) k noRow h)
-    (ap readingOf (sym (stop (rowNo s k) (drop (suc k) (rowsOf s)) (take k (valuesOf n s)) s e)))
+    ∙ rw (drop-cons (layoutOf s) k noField h)
+    (ap readingOf (sym (stop (fieldOf s k) (drop (suc k) (layoutOf s)) (take k (valuesOf n s)) s e)))
 
 run-good : (a : Bool) (b : List ℕ) → keptAnswer a ≡ Lawful → gotRun a b ≡ got (run b)
 run-good true b e = refl

@@ -8,8 +8,9 @@ use lib.Dec.{lit<, eqb}
 use lib.ListN.{getD, drop}
 use lib.Seq.{getD-take, getD-drop}
 use Rattle.run.specs.Runs.{part}
+use Rattle.message.specs.Values.{numOf}
 use Rattle.layout.specs.Layout.{isTrade}
-use Rattle.layout.specs.Records.{eventOf, recordOf, numOf, recordFrom}
+use Rattle.layout.specs.Records.{eventOf, recordOf, recordFrom}
 use Rattle.layout.specs.declared.Event.{Event}
 use Rattle.layout.specs.declared.Event.the-variants.{Accepted, Executed, Cancelled, Broken, Replaced, Repriced}
 use Rattle.layout.specs.declared.Numbers.{Numbers}

@@ -6,10 +6,11 @@ use lib.ListN.{getD, take, drop}
 use Rattle.run.specs.Runs.{part}
 use Rattle.refusal.specs.declared.Refusal.{Refusal}
 use Rattle.refusal.specs.declared.Refusal.the-variants.{Field}
-use Rattle.layout.specs.Layout.{Fields, breaks, say, isTrade, readRows}
-use Rattle.layout.specs.Line.{rowsOf}
+use Rattle.message.specs.Fields.{Fields, breaks, say, readFields}
+use Rattle.message.specs.Rule.{Value, num, run}
+use Rattle.layout.specs.Layout.{isTrade}
+use Rattle.layout.specs.Line.{layoutOf}
 use Rattle.layout.specs.Records.{recordOf, recordFrom}
-use Rattle.layout.specs.Rule.{Value, num, run}
 use Rattle.layout.specs.declared.Numbers.{Numbers}
 use Rattle.rule.specs.ByType.{idValue}
 use Rattle.line.specs.Promises.{blankRecord}
@@ -60,7 +61,7 @@ noNumbers = record { timestamp = 0; contracts = 0; date = 0; year = 0; strike = 
 
 -- what is read from field k + 1 on, behind k fields that said their values
 abbrev pub readingFrom : ℕ → Numbers → List ℕ → Reading
-readingFrom k n s = readingOf (readRows (drop k (rowsOf s)) (take k (valuesOf n s)) s)
+readingFrom k n s = readingOf (readFields (drop k (layoutOf s)) (take k (valuesOf n s)) s)
 
 -- ---- the numbers n of a line, with those that a group x of its fields says
 

@@ -9,8 +9,8 @@ use lib.Dec.{leb, eqb, leb·zero}
 use lib.ListN.{length}
 use Rattle.run.specs.Runs.{member}
 use Rattle.field.specs.Kept.{isText}
+use Rattle.message.specs.Rule.{kept, text, run, lawful}
 use Rattle.layout.specs.Layout.{sides, months, denominators}
-use Rattle.layout.specs.Rule.{kept, text, run, lawful}
 use Rattle.layout.specs.Strikes.{lawfulStrike}
 use Rattle.order.specs.declared.Figures.{Figures}
 use Rattle.order.specs.declared.Order.{Order}

@@ -2,9 +2,9 @@
 use Prim.Native.Nat.{_+_}
 use mathlib.Core.Bool.{Bool, _&&_}
 use lib.Dec.{leb, eqb}
+use Rattle.message.specs.Rule.{num, run}
+use Rattle.message.specs.Values.{one}
 use Rattle.layout.specs.Layout.{keepsRule}
-use Rattle.layout.specs.Records.{one}
-use Rattle.layout.specs.Rule.{num, run}
 use Rattle.layout.specs.Strikes.{lawfulStrike}
 use Rattle.order.specs.declared.Figures.{Figures}
 use Rattle.order.specs.declared.Key.{Key}

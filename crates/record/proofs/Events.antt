@@ -4,9 +4,10 @@ use mathlib.Core.Bool.{true, _&&_}
 use mathlib.Core.List.{[], _∷_}
 use lib.Dec.{leb}
 use Rattle.run.specs.Runs.{member}
+use Rattle.message.specs.Rule.{code, kept, blank, lawful, writes}
+use Rattle.message.specs.Values.{one}
 use Rattle.layout.specs.Layout.{types, liquidities, onTrade, tradeId}
-use Rattle.layout.specs.Records.{typeOf, tradeOf, one, liquidityOf, matchOf, crossOf}
-use Rattle.layout.specs.Rule.{code, kept, blank, lawful, writes}
+use Rattle.layout.specs.Records.{typeOf, tradeOf, liquidityOf, matchOf, crossOf}
 use Rattle.layout.specs.declared.Event.{Event}
 use Rattle.layout.specs.declared.Event.the-variants.{Accepted, Executed, Cancelled, Broken, Replaced, Repriced}
 use Rattle.layout.specs.declared.Trade.{Trade}

@@ -6,9 +6,9 @@ use Rattle.field.specs.declared.Bytes.{Bytes}
 use Rattle.field.specs.declared.Bytes.the-variants.{Lawful, Unlawful}
 use Rattle.field.specs.declared.Number.{Number}
 use Rattle.field.specs.declared.Number.the-variants.{Value as Number·Value, Bad}
+use Rattle.message.specs.Rule.{Rule, kept, blank, Value, num, run, Got, got, broken, reads}
+use Rattle.message.specs.Values.{numOf}
 use Rattle.layout.specs.Layout.{idNumber}
-use Rattle.layout.specs.Records.{numOf}
-use Rattle.layout.specs.Rule.{Rule, kept, blank, Value, num, run, Got, got, broken, reads}
 
 -- a reader's answer for a rule that keeps bytes
 abbrev pub keptGot : Got → Bytes

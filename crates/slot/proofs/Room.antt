@@ -7,13 +7,13 @@ use mathlib.Core.List.{List}
 use borrow.Author.Tests.{lt-ltb, ltb-true}
 use Rattle.field.specs.Byte.{isOf}
 use Rattle.field.specs.declared.Class.the-variants.{Printable}
+use Rattle.message.specs.Rule.{code, kept, text, run, lawful, fits}
+use Rattle.message.specs.Values.{one}
 use Rattle.run.proofs.Tests.{both}
 use Rattle.run.proofs.All.{all-wider}
 use Rattle.field.proofs.Fill.{between}
+use Rattle.message.proofs.Rules.{writes-reads, writes-printable}
 use Rattle.layout.specs.Layout.{sides, months, denominators, leastStrike}
-use Rattle.layout.specs.Records.{one}
-use Rattle.layout.specs.Rule.{code, kept, text, run, lawful, fits}
-use Rattle.layout.proofs.Rules.{writes-reads, writes-printable}
 use Rattle.order.specs.declared.Order.{Order}
 use Rattle.order.specs.Stored.{soundOrder}
 use Rattle.day.proofs.Figures.{figures-sound}

@@ -11,17 +11,19 @@ use Rattle.run.specs.Runs.{member}
 use Rattle.field.specs.Kept.{kept as keptAnswer}
 use Rattle.field.specs.declared.Bytes.{Bytes}
 use Rattle.field.specs.declared.Bytes.the-variants.{Lawful, Unlawful}
+use Rattle.message.specs.Fields.{noField, firstUnlawful}
+use Rattle.message.specs.Rule.{code, kept, text, blank, Kind, isKind, num, run, lawful}
+use Rattle.message.specs.Values.{one}
 use Rattle.field.proofs.Returns.{lawful-true, unlawful-false}
-use Rattle.layout.specs.Layout.{noRow, liquidities, isTrade, firstUnlawful}
-use Rattle.layout.specs.Line.{rowsFor}
-use Rattle.layout.specs.Records.{fieldsOf, typeOf, tradeOf, one}
-use Rattle.layout.specs.Rule.{code, kept, text, blank, Kind, isKind, num, run, lawful}
+use Rattle.layout.specs.Layout.{liquidities, isTrade}
+use Rattle.layout.specs.Line.{layoutFor}
+use Rattle.layout.specs.Records.{fieldsOf, typeOf, tradeOf}
 use Rattle.layout.specs.declared.Record.{Record}
 use Rattle.rule.specs.ByType.{keptOn}
 use Rattle.rule.proofs.Answers.{kept-is, price-most}
 use Rattle.writing.specs.Writes.{checkOf, checkFrom}
 use Rattle.record.proofs.Events.{liquidity-value}
-use Rattle.writing.proofs.Fields.{rowFor, lawfulAt}
+use Rattle.writing.proofs.Fields.{fieldFor, lawfulAt}
 
 -- the fields from one to another are lawful, so the answer is that of those behind them
 abbrev pub Past : ℕ → ℕ → Record → Type 0
@@ -29,15 +31,15 @@ Past from to r = checkFrom to r ≡ checkFrom from r
 
 -- a lawful field leaves the answer to those behind it, an unlawful one is named
 pub judged : (k : ℕ) (r : Record) {t : Bool} → k < 24 → lawfulAt r k ≡ t
-    → checkOf (cond t (firstUnlawful (drop (suc k) (rowsFor r)) (drop (suc k) (fieldsOf r))) (rowFor r k .no)) ≡ checkFrom k r
-judged k r h e = rw (drop-cons (rowsFor r) k noRow h, drop-cons (fieldsOf r) k (num 0) h, e)
+    → checkOf (cond t (firstUnlawful (drop (suc k) (layoutFor r)) (drop (suc k) (fieldsOf r))) (fieldFor r k .no)) ≡ checkFrom k r
+judged k r h e = rw (drop-cons (layoutFor r) k noField h, drop-cons (fieldsOf r) k (num 0) h, e)
 
 -- by a test of the field
 module _ (k : ℕ) (r : Record) {b : Bool} (h : k < 24) (e : b ≡ lawfulAt r k) where
   pub test-passes : not b ≡ false → Past k (suc k) r
   test-passes t = judged k r h (sym e ∙ not-false b t)
 
-  pub test-fails : not b ≡ true → checkOf (rowFor r k .no) ≡ checkFrom k r
+  pub test-fails : not b ≡ true → checkOf (fieldFor r k .no) ≡ checkFrom k r
   test-fails t = judged k r h (sym e ∙ not-true b t)
 
 -- by what a reader answers of the field's bytes
@@ -45,7 +47,7 @@ module _ (k : ℕ) (r : Record) {x : Bytes} (h : k < 24) (e : x ≡ keptAnswer (
   pub kept-passes : x ≡ Lawful → Past k (suc k) r
   kept-passes t = judged k r h (lawful-true (lawfulAt r k) (sym e ∙ t))
 
-  pub kept-fails : x ≡ Unlawful → checkOf (rowFor r k .no) ≡ checkFrom k r
+  pub kept-fails : x ≡ Unlawful → checkOf (fieldFor r k .no) ≡ checkFrom k r
   kept-fails t = judged k r h (unlawful-false (lawfulAt r k) (sym e ∙ t))
 
 -- ---- the tests of the fields

@@ -4,23 +4,23 @@ use mathlib.Core.Path.{_≡_}
 use mathlib.Core.Bool.{Bool}
 use mathlib.Core.List.{List}
 use lib.ListN.{length, getD}
-use Rattle.layout.specs.Layout.{Row, noRow}
-use Rattle.layout.specs.Line.{rowsFor}
+use Rattle.message.specs.Fields.{Field, noField}
+use Rattle.message.specs.Rule.{Value, num, lawful, writes}
+use Rattle.layout.specs.Line.{layoutFor}
 use Rattle.layout.specs.Records.{fieldsOf}
-use Rattle.layout.specs.Rule.{Value, num, lawful, writes}
 use Rattle.layout.specs.declared.Record.{Record}
 
-abbrev pub rowFor : Record → ℕ → Row
-rowFor r k = getD (rowsFor r) k noRow
+abbrev pub fieldFor : Record → ℕ → Field
+fieldFor r k = getD (layoutFor r) k noField
 
 abbrev pub valueFor : Record → ℕ → Value
 valueFor r k = getD (fieldsOf r) k (num 0)
 
 abbrev pub lawfulAt : Record → ℕ → Bool
-lawfulAt r k = lawful (rowFor r k .rule) (rowFor r k .len) (valueFor r k)
+lawfulAt r k = lawful (fieldFor r k .rule) (fieldFor r k .len) (valueFor r k)
 
 abbrev pub textFor : Record → ℕ → List ℕ
-textFor r k = writes (rowFor r k .rule) (rowFor r k .len) (valueFor r k)
+textFor r k = writes (fieldFor r k .rule) (fieldFor r k .len) (valueFor r k)
 
 -- a function that is given a record knows so where it starts
 pub record Sized (r : Record) : Type 0 where

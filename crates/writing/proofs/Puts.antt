@@ -4,28 +4,29 @@ use mathlib.Core.Path.{_≡_, refl, _∙_}
 use mathlib.Core.List.{List, _++_, append-assoc}
 use lib.ListN.{length, drop}
 use lib.Seq.{sets, drop-cons}
-use Rattle.layout.specs.Layout.{noRow, isTrade, tradeId, writeRows}
-use Rattle.layout.specs.Line.{crlf, rowsFor}
+use Rattle.message.specs.Fields.{noField, writeFields}
+use Rattle.message.specs.Rule.{num, writes}
+use Rattle.layout.specs.Layout.{isTrade, tradeId}
+use Rattle.layout.specs.Line.{crlf, layoutFor}
 use Rattle.layout.specs.Records.{fieldsOf, typeOf, tradeOf, matchOf, crossOf}
-use Rattle.layout.specs.Rule.{num, writes}
 use Rattle.layout.specs.declared.Event.{Event}
 use Rattle.layout.specs.declared.Record.{Record}
 use Rattle.run.proofs.Stores.{sets-append}
 use Rattle.record.proofs.Events.{by-event}
 use Rattle.writing.specs.Writes.{idText, lineFrom}
-use Rattle.writing.proofs.Fields.{rowFor, textFor}
+use Rattle.writing.proofs.Fields.{fieldFor, textFor}
 
 line-next : (k : ℕ) (r : Record) → k < 24 → lineFrom k r ≡ textFor r k ++ lineFrom (suc k) r
 unfolding lineFrom
 line-next k r h =
-    rw (drop-cons (rowsFor r) k noRow h, drop-cons (fieldsOf r) k (num 0) h)
-    (append-assoc (textFor r k) (writeRows (drop (suc k) (rowsFor r)) (drop (suc k) (fieldsOf r))) crlf)
+    rw (drop-cons (layoutFor r) k noField h, drop-cons (fieldsOf r) k (num 0) h)
+    (append-assoc (textFor r k) (writeFields (drop (suc k) (layoutFor r)) (drop (suc k) (fieldsOf r))) crlf)
 
 -- a field's bytes are stored, and behind them the rest of the line
-pub field-then : (k : ℕ) (r : Record) (xs l : List ℕ) {l₁ x : List ℕ} → k < 24 → (xs ≡ textFor r k) × (length xs ≡ rowFor r k .len)
-    → l₁ ≡ sets l (rowFor r k .at) xs → x ≡ sets l₁ (rowFor r k .at + rowFor r k .len) (lineFrom (suc k) r)
-    → x ≡ sets l (rowFor r k .at) (lineFrom k r)
-field-then k r xs l h e p q = q ∙ rw (p, line-next k r h, ← (e .0)) (sets-append l (rowFor r k .at) (rowFor r k .len) xs (lineFrom (suc k) r) (e .1))
+pub field-then : (k : ℕ) (r : Record) (xs l : List ℕ) {l₁ x : List ℕ} → k < 24 → (xs ≡ textFor r k) × (length xs ≡ fieldFor r k .len)
+    → l₁ ≡ sets l (fieldFor r k .at) xs → x ≡ sets l₁ (fieldFor r k .at + fieldFor r k .len) (lineFrom (suc k) r)
+    → x ≡ sets l (fieldFor r k .at) (lineFrom k r)
+field-then k r xs l h e p q = q ∙ rw (p, line-next k r h, ← (e .0)) (sets-append l (fieldFor r k .at) (fieldFor r k .len) xs (lineFrom (suc k) r) (e .1))
 
 pub ends : (r : Record) (l : List ℕ) {x : List ℕ} → x ≡ sets l 138 crlf → x ≡ sets l 138 (lineFrom 24 r)
 unfolding lineFrom

@@ -5,8 +5,8 @@ use mathlib.Core.List.{List, _++_}
 use lib.Dec.{eqb}
 use lib.ListN.{drop, replicate}
 use Rattle.field.specs.Number.{filled}
-use Rattle.layout.specs.Layout.{firstUnlawful, writeRows}
-use Rattle.layout.specs.Line.{crlf, rowsFor}
+use Rattle.message.specs.Fields.{firstUnlawful, writeFields}
+use Rattle.layout.specs.Line.{crlf, layoutFor}
 use Rattle.layout.specs.Records.{fieldsOf}
 use Rattle.layout.specs.declared.Record.{Record}
 use Rattle.writing.specs.declared.Checked.{Checked}
@@ -22,8 +22,8 @@ checkOf n = cond (eqb n 0) Lawful (Unlawful n)
 
 -- the first unlawful field from field k + 1 on
 abbrev pub checkFrom : ℕ → Record → Checked
-checkFrom k r = checkOf (firstUnlawful (drop k (rowsFor r)) (drop k (fieldsOf r)))
+checkFrom k r = checkOf (firstUnlawful (drop k (layoutFor r)) (drop k (fieldsOf r)))
 
 -- the bytes of a line from field k + 1 on
 unfoldable pub lineFrom : ℕ → Record → List ℕ
-lineFrom k r = writeRows (drop k (rowsFor r)) (drop k (fieldsOf r)) ++ crlf
+lineFrom k r = writeFields (drop k (layoutFor r)) (drop k (fieldsOf r)) ++ crlf

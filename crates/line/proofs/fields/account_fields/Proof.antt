@@ -8,7 +8,7 @@ use denote.Ref.{now}
 use lib.Dec.{lit<, eqb}
 use lib.ListN.{getD}
 use Rattle.run.specs.Runs.{part}
-use Rattle.layout.specs.Rule.{kept, text, textOrBlank, digitsOrBlank}
+use Rattle.message.specs.Rule.{kept, text, textOrBlank, digitsOrBlank}
 use Rattle.layout.specs.declared.Numbers.{Numbers}
 use Rattle.line.specs.declared.Reading.{Reading}
 use Rattle.line.specs.Groups.{readingFrom}

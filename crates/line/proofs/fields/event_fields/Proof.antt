@@ -11,9 +11,9 @@ use Rattle.run.specs.Runs.{part}
 use Rattle.layout.specs.Layout.{isTrade}
 use Rattle.rule.specs.ByType.{keptOn}
 use Rattle.line.specs.Groups.{readingFrom, withTimestamp}
-use Rattle.layout.specs.Rule.{number, code, text}
 use Rattle.layout.specs.Layout.{types, capacities, positions, liquidities}
 use Rattle.field.specs.Number.{number as readNumber}
+use Rattle.message.specs.Rule.{number, code, text}
 use Rattle.layout.specs.declared.Numbers.{Numbers}
 use Rattle.line.specs.declared.Reading.{Reading}
 use Rattle.line.proofs.Steps.{timestampSaid, past, stops, kind-good, kind-bad, code-good, code-bad, value-good, value-bad}

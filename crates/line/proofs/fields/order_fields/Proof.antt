@@ -6,9 +6,9 @@ use borrow.Author.Needs.{needs}
 use denote.Ref.{now}
 use lib.Dec.{lit<}
 use Rattle.run.specs.Runs.{part}
-use Rattle.layout.specs.Rule.{number, code, text, hex}
 use Rattle.layout.specs.Layout.{sides, months}
 use Rattle.field.specs.Number.{number as readNumber}
+use Rattle.message.specs.Rule.{number, code, text, hex}
 use Rattle.layout.specs.declared.Numbers.{Numbers}
 use Rattle.line.specs.declared.Reading.{Reading}
 use Rattle.line.specs.Groups.{readingFrom, withContracts}

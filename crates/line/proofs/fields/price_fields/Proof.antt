@@ -7,9 +7,9 @@ use denote.Ref.{now}
 use lib.Dec.{lit<}
 use lib.ListN.{getD}
 use Rattle.run.specs.Runs.{part}
-use Rattle.layout.specs.Rule.{price, code}
 use Rattle.layout.specs.Layout.{denominators, leastStrike}
 use Rattle.field.specs.Number.{digits as readDigits, price as readPrice}
+use Rattle.message.specs.Rule.{price, code}
 use Rattle.layout.specs.declared.Numbers.{Numbers}
 use Rattle.line.specs.declared.Reading.{Reading}
 use Rattle.line.specs.Groups.{readingFrom, withSeries}

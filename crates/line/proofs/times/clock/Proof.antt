@@ -5,9 +5,9 @@ use mathlib.Core.Bool.{Bool, true, false, not}
 use borrow.Author.Needs.{needs}
 use borrow.Author.Tests.{not-true, not-false}
 use Rattle.refusal.specs.Answer.{value, refused}
+use Rattle.message.specs.Rule.{num, lawful}
 use Rattle.layout.specs.Clocks.{clock, timeOf}
 use Rattle.layout.specs.Layout.{timestamp}
-use Rattle.layout.specs.Rule.{num, lawful}
 use Rattle.line.proofs.times.clock.Statement.{statement}
 use Rattle.line.proofs.times.clock.Tie as tie
 

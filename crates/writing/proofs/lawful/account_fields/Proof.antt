@@ -2,7 +2,7 @@
 use mathlib.Core.Path.{sym, _∙_}
 use borrow.Author.Needs.{needs}
 use lib.Dec.{lit<}
-use Rattle.layout.specs.Rule.{text, textOrBlank, digitsOrBlank}
+use Rattle.message.specs.Rule.{text, textOrBlank, digitsOrBlank}
 use Rattle.writing.proofs.Checks.{Past, kept-passes, kept-fails, kind-is, replaced-is}
 use Rattle.writing.proofs.Fields.{Sized}
 use Rattle.writing.proofs.lawful.account_fields.Statement.{statement}

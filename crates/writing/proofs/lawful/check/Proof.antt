@@ -2,8 +2,8 @@
 use mathlib.Core.Path.{_≡_, _∙_}
 use borrow.Author.Needs.{needs}
 use lib.Dec.{lit<}
-use Rattle.layout.specs.Rule.{text}
 use Rattle.field.specs.Kept.{kept as keptAnswer}
+use Rattle.message.specs.Rule.{text}
 use Rattle.writing.proofs.Checks.{Past, judged, test-passes, test-fails, kept-passes, kept-fails, kind-is, liquidity-is}
 use Rattle.record.proofs.Events.{type-lawful}
 use Rattle.writing.proofs.Fields.{lawfulAt, Sized}

@@ -2,7 +2,7 @@
 use mathlib.Core.Path.{_∙_}
 use borrow.Author.Needs.{needs}
 use lib.Dec.{lit<}
-use Rattle.layout.specs.Rule.{text, hex}
+use Rattle.message.specs.Rule.{text, hex}
 use Rattle.writing.proofs.Checks.{Past, test-passes, test-fails, kept-passes, kept-fails, kind-is}
 use Rattle.writing.proofs.Fields.{Sized}
 use Rattle.writing.proofs.lawful.order_fields.Statement.{statement}

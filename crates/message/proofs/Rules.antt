@@ -21,8 +21,8 @@ use Rattle.run.proofs.Tests.{both, either}
 use Rattle.run.proofs.All.{all-append, all-wider}
 use Rattle.field.proofs.Fill.{between, is-between}
 use Rattle.field.proofs.Laws.{within-value, length-filled, length-price, digits-read, digits-write, spaced-back, spaced-write, price-read, price-write}
-use Rattle.layout.specs.Rule.{Kind, text, textOrBlank, blank, digitsOrBlank, hex, isKind, Rule, number, digits, price, code, kept}
-use Rattle.layout.specs.Rule.{Value, num, run, got, broken, gotNumber, gotRun, reads, lawful, writes, fits}
+use Rattle.message.specs.Rule.{Kind, text, textOrBlank, blank, digitsOrBlank, hex, isKind, Rule, number, digits, price, code, kept}
+use Rattle.message.specs.Rule.{Value, num, run, got, broken, gotNumber, gotRun, reads, lawful, writes, fits}
 
 broken-got : {v : Value} → broken ≡ got v → ⊥
 broken-got e = let z : _≡_ {A = ℕ} 0 1 = cc in omega arith
@@ -40,7 +40,7 @@ got-within least most n v e =
     let w = within-value least most n (g .0) (g .2) in
     (g .0, g .1, w .0, is-between least most (g .0) (w .1) (w .2))
 
-got-run : (t : Bool) (b : List ℕ) (v : Value) → gotRun t b ≡ got v → (v ≡ run b) × (t ≡ true)
+pub got-run : (t : Bool) (b : List ℕ) (v : Value) → gotRun t b ≡ got v → (v ≡ run b) × (t ≡ true)
 got-run true b v e = (cc, refl)
 got-run false b v e = absurd (broken-got e)
 

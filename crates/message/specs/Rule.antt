@@ -40,6 +40,10 @@ pub data Got : Type 0 where
   got : Value → Got
   broken : Got
 
+abbrev pub isGot : Got → Bool
+isGot (got v) = true
+isGot broken = false
+
 abbrev pub gotNumber : Number → Got
 gotNumber (Number·Value v) = got (num v)
 gotNumber Bad = broken
