@@ -10,3 +10,5 @@ pub mod Laws
 pub mod Search
 -- Which order a place found by key stands for
 pub mod Lookups
+-- The earliest record with a key is the place of its order
+pub mod Keyed

@@ -12,6 +12,10 @@ use Rattle.slot.specs.declared.Place.the-variants.{At, Nobody}
 abbrev pub slots : Section
 slots = record { first = 8; step = 80; width = 80 }
 
+-- the key at the beginning of each slot: its Source, then its Token
+abbrev pub slotKeys : Section
+slotKeys = record { first = 8; step = 80; width = 26 }
+
 abbrev pub slotAt : ℕ → ℕ
 slotAt i = startOf slots i
 

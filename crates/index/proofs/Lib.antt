@@ -1,0 +1,14 @@
+-- The tag by sums that wrap, and the bucket
+pub mod Tagging
+-- A walk down a chain finds the earliest record
+pub mod Chains
+-- The empty index, and one record more
+pub mod Entering
+-- Stores that leave the index
+pub mod Keeping
+-- Heads set to 0 one after another
+pub mod Clearing
+-- The index built record by record, and whether all keys differ
+pub mod Passing
+-- What a lookup and distinct keys mean, in words
+pub mod Meanings

@@ -1,0 +1,57 @@
+-- `index::tag::tag` meets its contract: the tag so far, and the bytes left, give the whole tag.
+use Prim.Native.Nat.{_-_, _≤_}
+use mathlib.Core.Path.{_≡_, sym, _∙_}
+use borrow.Author.Needs.{needs}
+use denote.Ref.{now}
+use lib.ListN.{length, drop}
+use Rattle.index.specs.Tags.{tagFrom}
+use Rattle.index.proofs.Tagging.{tag-next, tag-end}
+use Rattle.index.proofs.tag.tag.Statement.{statement}
+use Rattle.index.proofs.tag.tag.Tie as tie
+
+abbrev Inv-loop : tie.InvT-loop
+Inv-loop key h₀ i₀ h i = (i ≤ length key) × (tagFrom 0 key ≡ tagFrom h (drop i key))
+
+abbrev μ-loop : tie.MeasureT-loop
+μ-loop key h₀ i₀ h i = length key - i
+
+loop-holds : tie.Need-loop-holds Inv-loop μ-loop
+loop-holds c = search needs
+
+shared-slice-read-more : tie.Need-shared-slice-read-more Inv-loop μ-loop
+shared-slice-read-more c = search needs
+
+more-requires : tie.Need-more-requires Inv-loop μ-loop
+more-requires c κs = search needs
+
+add-i : tie.Need-add-i Inv-loop μ-loop
+add-i c = search needs
+
+loop-less : tie.Need-loop-less Inv-loop μ-loop
+loop-less c = search needs
+
+loop-again : tie.Need-loop-again Inv-loop μ-loop
+loop-again c =
+    let l = c .before .before .before .loop in
+    let a = c .before .before .before .before .before .args in
+    (search needs, l .inv .1 ∙ tag-next (now (a .key)) (l .i) (l .h) (c .more .result) (search needs) (c .more .ensures))
+
+returns : tie.Need-returns Inv-loop μ-loop
+returns c =
+    let l = c .before .loop in
+    let a = c .before .before .before .args in
+    sym (l .inv .1 ∙ tag-end (now (a .key)) (l .i) (l .h) (search needs))
+
+pub tag-spec : {M : Type 1} → statement M
+tag-spec =
+    tie.close
+    (tie.spec
+    Inv-loop
+    μ-loop
+    loop-holds
+    shared-slice-read-more
+    more-requires
+    add-i
+    loop-less
+    loop-again
+    returns)

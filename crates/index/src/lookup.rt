@@ -1,0 +1,44 @@
+// Lookup by key.
+ghost use mathlib.Core.Path.{_≡_};
+ghost use lib.ListN.{length};
+ghost use Rattle.index.specs.Searches.{earliest};
+ghost use Rattle.index.specs.Tags.{bucketOf};
+ghost use Rattle.index.specs.Indexes.{Indexed};
+use crate::tag;
+use section::Section;
+
+// Down the chain of bucket b, the key's own. It goes to the end, from later records to earlier ones, so the last hit is the earliest.
+pub fn walk(
+    t: &[u8],
+    keys: Section,
+    n: usize,
+    heads: &[u16],
+    nexts: &[u16],
+    b: usize,
+    key: &[u8],
+) -> usize
+    requires { ⌜ Indexed keys (now t) n (now heads) (now nexts) ⌝ }
+    requires { ⌜ length (now key) ≡ keys .width ⌝ }
+    requires { ⌜ b ≡ bucketOf (length (now heads)) (now key) ⌝ }
+    ensures { λ r. ⌜ r ≡ earliest keys (now (t .entry)) n (now (key .entry)) ⌝ }
+{
+    let mut best: usize = 0;
+    let mut at = heads[b] as usize;
+    while 0 < at {
+        let i = at - 1;
+        if section::same(t, keys, i, key) {
+            best = at;
+        }
+        at = nexts[i] as usize;
+    }
+    best
+}
+
+// One more than the earliest of the first n records with the key, or 0.
+pub fn find(t: &[u8], keys: Section, n: usize, heads: &[u16], nexts: &[u16], key: &[u8]) -> usize
+    requires { ⌜ Indexed keys (now t) n (now heads) (now nexts) ⌝ }
+    requires { ⌜ length (now key) ≡ keys .width ⌝ }
+    ensures { λ r. ⌜ r ≡ earliest keys (now (t .entry)) n (now (key .entry)) ⌝ }
+{
+    walk(t, keys, n, heads, nexts, tag::bucket(key, heads.len()), key)
+}

@@ -1,0 +1,86 @@
+-- The place of an order by its key is the earliest record with that key, Source and Token as one run: the index answers what the lookup promises.
+use Prim.Native.Nat.{ℕ, zero, suc, _+_, _*_, _≤_}
+use native.Mathlib.Nat.{zero-add}
+use native.Mathlib.Omega.{arith}
+use mathlib.Core.Path.{_≡_, refl, sym, ap, _∙_}
+use mathlib.Core.Bool.{Bool, true, false, cond, _&&_, and-assoc}
+use mathlib.Core.List.{List, [], _∷_, _++_}
+use lib.Dec.{eqb}
+use lib.ListN.{length, take, drop, length-drop, length-take}
+use lib.Seq.{take-all}
+use Rattle.run.specs.Runs.{part, same}
+use Rattle.order.specs.Names.{sameKey}
+use Rattle.order.specs.declared.Key.{Key}
+use Rattle.order.specs.declared.Order.{Order}
+use Rattle.day.specs.History.{oneMore}
+use Rattle.day.specs.Machine.{place}
+use Rattle.section.specs.Sections.{recordOf, KeyOf}
+use Rattle.run.proofs.Parts.{part-part}
+use Rattle.section.proofs.Places.{key-in-record}
+use Rattle.section.proofs.Lists.{records-last, length-records}
+use Rattle.index.specs.Searches.{orElse, hasKey, earliest}
+use Rattle.slot.specs.Slots.{keyIn, orderIn}
+use Rattle.slot.specs.Places.{slots, slotKeys, slot, ordersIn}
+
+pub keys-of-slots : KeyOf slotKeys slots
+keys-of-slots = record { steps = refl; from = omega arith; upto = omega arith }
+
+-- ---- one key
+
+-- two runs are the same if their first n bytes are, and the others
+same-cut : (n : ℕ) (a b : List ℕ) → same a b ≡ (same (take n a) (take n b) && same (drop n a) (drop n b))
+same-cut zero a b = refl
+same-cut (suc n) [] [] = refl
+same-cut (suc n) [] (y ∷ b) = refl
+same-cut (suc n) (x ∷ a) [] = refl
+same-cut (suc n) (x ∷ a) (y ∷ b) =
+    ap (λ t. eqb x y && t) (same-cut n a b) ∙ sym (and-assoc (eqb x y) (same (take n a) (take n b)) (same (drop n a) (drop n b)))
+
+behind-source : (b : List ℕ) → length b ≤ 26 → part b 6 20 ≡ drop 6 b
+behind-source b h = take-all 20 (drop 6 b) (rw (length-drop 6 b) (omega arith))
+
+same-keys : (a b : List ℕ) → length a ≤ 26 → length b ≤ 26 → sameKey (keyIn a) (keyIn b) ≡ same a b
+same-keys a b h k = rw (behind-source a h, behind-source b k) (sym (same-cut 6 a b))
+
+slot-key : (s : List ℕ) (i : ℕ) → keyIn (slot s i) ≡ keyIn (recordOf slotKeys s i)
+slot-key s i =
+    sym
+    (rw (key-in-record keys-of-slots s i)
+    (λ j.
+    record {
+      source = part-part (slot s i) 0 26 0 6 (omega arith) j;
+      token = part-part (slot s i) 0 26 6 20 (omega arith) j;
+    }))
+
+slot-has : (s : List ℕ) (i : ℕ) (key : List ℕ) → length key ≡ 26 → sameKey (keyIn (slot s i)) (keyIn key) ≡ hasKey slotKeys s key i
+slot-has s i key e =
+    ap (λ k. sameKey k (keyIn key)) (slot-key s i)
+    ∙ same-keys (recordOf slotKeys s i) key (omega (arith, length-take 26 (drop (8 + 80 * i) s))) (omega arith)
+
+-- ---- all orders
+
+place-last : (k : Key) (os : List Order) (o : Order) → place k (os ++ (o ∷ [])) ≡ orElse (place k os) (cond (sameKey (o .key) k) (suc (length os)) 0)
+place-last k [] o = go (sameKey (o .key) k)
+  where
+    go : (t : Bool) → cond t 1 (oneMore 0) ≡ orElse 0 (cond t 1 0)
+    go true = refl
+    go false = refl
+place-last k (x ∷ os) o = go (sameKey (x .key) k) (sameKey (o .key) k) (place k os) (place-last k os o)
+  where
+    go : (t u : Bool) (p : ℕ) → place k (os ++ (o ∷ [])) ≡ orElse p (cond u (suc (length os)) 0)
+        → cond t 1 (oneMore (place k (os ++ (o ∷ [])))) ≡ orElse (cond t 1 (oneMore p)) (cond u (suc (suc (length os))) 0)
+    go true u p e = refl
+    go false true zero e = rw e
+    go false false zero e = rw e
+    go false u (suc p) e = rw e
+
+pub earliest-place : (s : List ℕ) (n : ℕ) (key : List ℕ) → length key ≡ 26 → earliest slotKeys s n key ≡ place (keyIn key) (ordersIn 0 n s)
+earliest-place s zero key e = refl
+earliest-place s (suc n) key e =
+    let os = ordersIn 0 n s in
+    let one : orElse (earliest slotKeys s n key) (cond (hasKey slotKeys s key n) (suc n) 0)
+    ≡ orElse (place (keyIn key) os) (cond (sameKey (keyIn (slot s n)) (keyIn key)) (suc (length os)) 0) =
+    rw (earliest-place s n key e, slot-has s n key e, length-records orderIn slots s 0 n) in
+    one
+    ∙ sym (place-last (keyIn key) os (orderIn (slot s n)))
+    ∙ ap (place (keyIn key)) (sym (records-last orderIn slots s 0 n ∙ ap (λ i. os ++ (orderIn (slot s i) ∷ [])) (zero-add n)))
