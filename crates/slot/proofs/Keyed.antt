@@ -15,10 +15,11 @@ use Rattle.order.specs.declared.Order.{Order}
 use Rattle.day.specs.History.{oneMore}
 use Rattle.day.specs.Machine.{place}
 use Rattle.section.specs.Sections.{recordOf, KeyOf}
-use Rattle.run.proofs.Parts.{part-part}
+use Rattle.section.specs.declared.Section.{Section}
 use Rattle.section.proofs.Places.{key-in-record}
 use Rattle.section.proofs.Lists.{records-last, length-records}
 use Rattle.index.specs.Searches.{orElse, hasKey, earliest}
+use Rattle.index.specs.Indexes.{Indexed}
 use Rattle.slot.specs.Slots.{keyIn, orderIn}
 use Rattle.slot.specs.Places.{slots, slotKeys, slot, ordersIn}
 
@@ -84,3 +85,12 @@ earliest-place s (suc n) key e =
     one
     ∙ sym (place-last (keyIn key) os (orderIn (slot s n)))
     ∙ ap (place (keyIn key)) (sym (records-last orderIn slots s 0 n ∙ ap (λ i. os ++ (orderIn (slot s i) ∷ [])) (zero-add n)))
+
+-- `slot::lookup::find_indexed`: the index is asked over keys that are known to be the table's
+module _ {keys : Section} (q : keys ≡ slotKeys) where
+  pub keys-indexed : {s : List ℕ} {n : ℕ} {heads nexts : List ℕ} → Indexed slotKeys s n heads nexts → Indexed keys s n heads nexts
+  keys-indexed x = rw q x
+
+  pub found-place : (s : List ℕ) (n : ℕ) (key : List ℕ) → length key ≡ 26 → {found : ℕ} → found ≡ earliest keys s n key
+      → found ≡ place (keyIn key) (ordersIn 0 n s)
+  found-place s n key e f = f ∙ ap (λ k. earliest k s n key) q ∙ earliest-place s n key e

@@ -5,7 +5,9 @@ mod read;
 mod write;
 
 pub use lookup::find;
+pub use lookup::find_indexed;
 pub use lookup::find_key;
+pub use lookup::keys;
 pub use read::elder_at;
 pub use read::figures_in;
 pub use read::order_at;

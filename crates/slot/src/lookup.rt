@@ -5,13 +5,16 @@ ghost use lib.ListN.{length};
 ghost use Rattle.run.specs.Runs.{part};
 ghost use Rattle.order.specs.Names.{sameKey};
 ghost use Rattle.day.specs.Machine.{place};
+ghost use Rattle.index.specs.Indexes.{Indexed};
 ghost use Rattle.slot.specs.Slots.{keyIn};
-ghost use Rattle.slot.specs.Places.{slotAt, ordersIn, placeNo};
+ghost use Rattle.slot.specs.Places.{slotAt, slotKeys, ordersIn, placeNo};
 use crate::HEADER;
+use crate::KEY;
 use crate::Place;
 use crate::SLOT;
 use crate::offset;
 use order::Key;
+use section::Section;
 
 // Whether the slot at an offset has the key made of two runs. The Token is tested first: many orders have one Source, and few one Token.
 fn has_key(t: &[u8], at: usize, source: &[u8], token: &[u8]) -> bool
@@ -48,4 +51,28 @@ pub fn find_key(t: &[u8], n: usize, k: Key) -> Place
     let source = k.source;
     let token = k.token;
     find(t, n, &source, &token)
+}
+
+// The keys of a table's orders: what their index is built and kept over.
+pub fn keys() -> Section
+    ensures { λ r. ⌜ r ≡ slotKeys ⌝ }
+{
+    Section {
+        first: HEADER,
+        step: SLOT,
+        width: KEY,
+    }
+}
+
+// The same as `find` by an index of the keys, for a caller that has the key as one run, as a line and a slot have it.
+pub fn find_indexed(t: &[u8], n: usize, heads: &[u16], nexts: &[u16], key: &[u8]) -> Place
+    requires { ⌜ Indexed slotKeys (now t) n (now heads) (now nexts) ⌝ }
+    requires { ⌜ length (now key) ≡ 26 ⌝ }
+    ensures { λ r. ⌜ placeNo r ≡ place (keyIn (now (key .entry))) (ordersIn 0 n (now (t .entry))) ⌝ }
+{
+    let found = index::find(t, keys(), n, heads, nexts, key);
+    if found == 0 {
+        return Place::Nobody;
+    }
+    Place::At(found - 1)
 }
