@@ -1,14 +1,18 @@
 -- Stores into the lent bytes that leave the index: those that miss every key of the records entered.
-use Prim.Native.Nat.{ℕ, _+_, _*_, _≤_, _<_}
+use Prim.Native.Nat.{ℕ, _+_, _-_, _*_, _≤_, _<_}
 use native.Mathlib.Omega.{arith}
-use mathlib.Core.Path.{_≡_, sym, ap, _∙_}
+use mathlib.Core.Path.{_≡_, refl, sym, ap, _∙_}
+use mathlib.Core.Bool.{Bool, true, false}
 use mathlib.Core.List.{List}
+use borrow.Author.Tests.{eqb-true, eqb-false}
+use lib.Dec.{eqb}
 use lib.ListN.{length}
 use lib.Seq.{sets, length-sets}
-use Rattle.section.specs.Sections.{startOf, recordOf}
+use Rattle.run.specs.Runs.{part}
+use Rattle.section.specs.Sections.{startOf, recordOf, Inside, KeyOf}
 use Rattle.section.specs.declared.Section.{Section}
-use Rattle.section.proofs.Places.{holds-keys, holds-stored}
-use Rattle.section.proofs.Stores.{kept-front, kept-gap, kept-past}
+use Rattle.section.proofs.Places.{key-in-record, holds-keys, holds-stored}
+use Rattle.section.proofs.Stores.{kept-front, kept-gap, kept-past, stored-here, stored-elsewhere}
 use Rattle.index.specs.Tags.{bucketOf}
 use Rattle.index.specs.Indexes.{latest, bucketIn, Indexed, Enters, Appends}
 use Rattle.index.proofs.Chains.{latest-same}
@@ -40,6 +44,24 @@ module _ {keys : Section} {s : List ℕ} {n : ℕ} {heads nexts : List ℕ} (x :
   -- behind them all, as into a section that follows
   pub index-past : (at : ℕ) → startOf keys n + keys .width ≤ at + keys .step → Indexed keys (sets s at xs) n heads nexts
   index-past at h = index-kept (sym (length-sets s at xs)) (λ i l. sym (kept-past keys s xs at n h i l)) x
+
+-- a record stored anew with the key that it had
+module _ {records keys : Section} (key : KeyOf keys records) {s : List ℕ} {n : ℕ} {heads nexts : List ℕ} (x : Indexed keys s n heads nexts) where
+  pub index-same : (i : ℕ) (b : List ℕ) → records .width ≤ records .step → Inside records s i → length b ≡ records .width
+      → part b (keys .first - records .first) (keys .width) ≡ recordOf keys s i → Indexed keys (sets s (startOf records i) b) n heads nexts
+  index-same i b a h e same = index-kept (sym (length-sets s (startOf records i) b)) (λ j l. sym (one j (eqb i j) refl)) x
+    where
+      one : (j : ℕ) (t : Bool) → eqb i j ≡ t → recordOf keys (sets s (startOf records i) b) j ≡ recordOf keys s j
+      one j true q =
+          let here : i ≡ j = eqb-true i j q in
+          rw (← here)
+          (key-in-record key (sets s (startOf records i) b) i
+          ∙ ap (λ r. part r (keys .first - records .first) (keys .width)) (stored-here records s b i e h)
+          ∙ same)
+      one j false q =
+          key-in-record key (sets s (startOf records i) b) j
+          ∙ ap (λ r. part r (keys .first - records .first) (keys .width)) (stored-elsewhere records s b i j e a (eqb-false i j q))
+          ∙ sym (key-in-record key s j)
 
 -- `index::entry::append`: once record n is stored it may be entered
 pub append-enters : {records keys : Section} {s : List ℕ} {n : ℕ} {bytes heads nexts : List ℕ} → Indexed keys s n heads nexts

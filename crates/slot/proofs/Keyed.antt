@@ -9,6 +9,7 @@ use lib.Dec.{eqb}
 use lib.ListN.{length, take, drop, length-drop, length-take}
 use lib.Seq.{take-all}
 use Rattle.run.specs.Runs.{part, same}
+use Rattle.run.proofs.Parts.{part-part}
 use Rattle.order.specs.Names.{sameKey}
 use Rattle.order.specs.declared.Key.{Key}
 use Rattle.order.specs.declared.Order.{Order}

@@ -12,3 +12,5 @@ pub mod Search
 pub mod Lookups
 -- The earliest record with a key is the place of its order
 pub mod Keyed
+-- The stores of booking leave the index of the keys
+pub mod Keeping
