@@ -2,18 +2,16 @@
 use Prim.Native.Nat.{ℕ, _-_, _≤_, _<_}
 use native.Mathlib.Omega.{arith}
 use mathlib.Core.Path.{_≡_, refl, sym, ap, _∙_}
-use mathlib.Core.Bool.{Bool, true, false, not, _&&_, and-false, false≢true}
+use mathlib.Core.Bool.{Bool, true, false, not, and-false, false≢true}
 use mathlib.Core.List.{List}
 use borrow.Author.Tests.{lt-ltb, le-leb, lt-leb, eq-eqb, ne-eqb, not-true, not-false}
-use lib.Dec.{leb, eqb}
+use lib.Dec.{eqb}
 use lib.ListN.{length, getD}
-use Rattle.run.specs.Runs.{part, all, isZero}
 use Rattle.order.specs.declared.Order.{Order}
 use Rattle.table.specs.Passing.{isMarked, elderFits}
 use Rattle.slot.specs.Slots.{orderIn}
 use Rattle.slot.specs.Places.{slot}
-use Rattle.table.specs.Tables.{countIn, limitOf, slotsSound, sound}
-use Rattle.run.proofs.Tests.{both}
+use Rattle.table.specs.Tables.{limitOf, countIn, headerSound, slotsSound, sound}
 use Rattle.table.proofs.Sound.{sound-apart}
 
 -- ---- a test, and what it was said to be
@@ -42,9 +40,6 @@ module _ (s flags : List ℕ) (i e : ℕ) where
 
 -- ---- a table
 
-abbrev header : List ℕ → Bool
-header s = leb (getD s 4 0) 1 && all isZero (part s 5 3)
-
 never : (b : Bool) → (b ≡ true → ⊥) → false ≡ b
 never true h = absurd (h refl)
 never false h = refl
@@ -56,14 +51,12 @@ module _ (s : List ℕ) where
   pub too-many : limitOf (length s) < countIn s → false ≡ sound s
   too-many h = never (sound s) (λ good. omega (arith, sound-apart s good .bytes .few))
 
-  its-header : sound s ≡ true → header s ≡ true
+  its-header : sound s ≡ true → headerSound s ≡ true
   its-header good = let b = sound-apart s good .bytes in rw (le-leb (getD s 4 0) 1 (b .mark), b .spare)
 
-  pub bad-header : header s ≡ false → false ≡ sound s
+  pub bad-header : headerSound s ≡ false → false ≡ sound s
   bad-header e = never (sound s) (λ good. false≢true (sym e ∙ its-header good))
 
-  pub good-header : 0 < limitOf (length s) → countIn s ≤ limitOf (length s) → header s ≡ true → slotsSound s ≡ sound s
+  pub good-header : 0 < limitOf (length s) → countIn s ≤ limitOf (length s) → headerSound s ≡ true → slotsSound s ≡ sound s
   unfolding sound
-  good-header h k e =
-      let tests = both (leb (getD s 4 0) 1) (all isZero (part s 5 3)) e in
-      rw (lt-ltb 0 (limitOf (length s)) h, le-leb (countIn s) (limitOf (length s)) k, tests .0, tests .1)
+  good-header h k e = rw (lt-ltb 0 (limitOf (length s)) h, le-leb (countIn s) (limitOf (length s)) k, e)

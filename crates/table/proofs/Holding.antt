@@ -24,7 +24,7 @@ use Rattle.slot.proofs.Laws.{stored-here, stored-elsewhere, header-kept, header
 use Rattle.slot.proofs.Lookups.{at-found, amend-at}
 use Rattle.slot.proofs.Said.{length-slot}
 use Rattle.table.specs.Changes.{changed, appended}
-use Rattle.table.specs.Tables.{countIn, limitOf, tableIn, tailZero}
+use Rattle.table.specs.Tables.{limitOf, countIn, spareIn, tableIn, tailZero}
 use Rattle.table.proofs.Limits.{limit-small, slot-inside, slots-inside}
 
 abbrev pub TailZero : List ℕ → ℕ → Type 0
@@ -35,7 +35,7 @@ pub record Holds (s : List ℕ) (t : Table) : Type 0 where
   pub meant : 0 < limitOf (length s)
   pub few : countIn s ≤ limitOf (length s)
   pub mark : getD s 4 0 ≤ 1
-  pub spare : all isZero (part s 5 3) ≡ true
+  pub spare : all isZero (spareIn s) ≡ true
   pub tails : (k : ℕ) → k < countIn s → TailZero s k
   pub says : tableIn s ≡ t
 
@@ -68,7 +68,7 @@ module _ (s : List ℕ) (i : ℕ) (o : Order) where
   same-mark : getD now 4 0 ≡ getD s 4 0
   same-mark = header-byte s (slotBytes o) i 4 (omega arith)
 
-  same-spare : part now 5 3 ≡ part s 5 3
+  same-spare : spareIn now ≡ spareIn s
   same-spare = header-kept s (slotBytes o) i 5 3 (omega arith)
 
   stored-tail : Fits o → SlotInside i s → (k : ℕ) → ((k ≡ i → ⊥) → TailZero s k) → TailZero now k

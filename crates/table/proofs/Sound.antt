@@ -7,11 +7,11 @@ use mathlib.Core.List.{List}
 use borrow.Author.Tests.{ltb-true, leb-true, lt-ltb, le-leb, eqb-true, eqb-false}
 use lib.Dec.{ltb, leb, eqb}
 use lib.ListN.{length, getD}
-use Rattle.run.specs.Runs.{part, all, isZero}
+use Rattle.run.specs.Runs.{all, isZero}
 use Rattle.day.specs.Damage.{undamaged}
 use Rattle.day.specs.Tables.{Table}
 use Rattle.slot.specs.Places.{slotAt}
-use Rattle.table.specs.Tables.{countIn, limitOf, tableIn, tailZero, tailsZero, slotsSound, sound}
+use Rattle.table.specs.Tables.{limitOf, countIn, spareIn, tableIn, tailZero, tailsZero, headerSound, slotsSound, sound}
 use Rattle.run.proofs.Tests.{both}
 use Rattle.table.proofs.Holding.{TailZero, Holds}
 use Rattle.table.proofs.Limits.{slots-inside}
@@ -43,17 +43,17 @@ pub sound-apart : (s : List ℕ) → sound s ≡ true → Sound s
 unfolding sound
 sound-apart s e =
     let limit = limitOf (length s) in
-    let header = both _ (slotsSound s) e in
-    let slots = both (tailsZero 0 (countIn s) s) (undamaged limit (tableIn s)) (header .1) in
-    let spare = both _ (all isZero (part s 5 3)) (header .0) in
-    let mark = both _ (leb (getD s 4 0) 1) (spare .0) in
-    let count = both (ltb 0 limit) (leb (countIn s) limit) (mark .0) in
+    let parts = both _ (slotsSound s) e in
+    let slots = both (tailsZero 0 (countIn s) s) (undamaged limit (tableIn s)) (parts .1) in
+    let front = both _ (headerSound s) (parts .0) in
+    let header = both (leb (getD s 4 0) 1) (all isZero (spareIn s)) (front .1) in
+    let count = both (ltb 0 limit) (leb (countIn s) limit) (front .0) in
     let bytes : Holds s (tableIn s) =
     record {
       meant = ltb-true 0 limit (count .0);
       few = leb-true (countIn s) limit (count .1);
-      mark = leb-true (getD s 4 0) 1 (mark .1);
-      spare = spare .1;
+      mark = leb-true (getD s 4 0) 1 (header .0);
+      spare = header .1;
       tails = λ k l. tails-each 0 (countIn s) s (slots .0) k (omega arith) (omega arith);
       says = refl;
     } in

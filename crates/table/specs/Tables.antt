@@ -35,6 +35,10 @@ limitOf n = limitAmong limits n
 abbrev pub countIn : List ℕ → ℕ
 countIn s = le (part s 0 4)
 
+-- three bytes of the header, kept for the counts of quote rows (02, 1) and of trades (02, 7); they have no meaning yet
+abbrev pub spareIn : List ℕ → List ℕ
+spareIn s = part s 5 3
+
 -- the table that the bytes say
 abbrev pub tableIn : List ℕ → Table
 tableIn s = withMark (eqb (getD s 4 0) 1) (withOrders (ordersIn 0 (countIn s) s) empty)
@@ -48,15 +52,17 @@ abbrev pub tailsZero : ℕ → ℕ → List ℕ → Bool
 tailsZero i zero s = true
 tailsZero i (suc n) s = tailZero s i && tailsZero (i + 1) n s
 
+-- the header but for the count: the mark of the day's end is 0 or 1, and the bytes that are kept are 0
+abbrev pub headerSound : List ℕ → Bool
+headerSound s = leb (getD s 4 0) 1 && all isZero (spareIn s)
+
 -- all slots in use
 abbrev pub slotsSound : List ℕ → Bool
 slotsSound s = tailsZero 0 (countIn s) s && undamaged (limitOf (length s)) (tableIn s)
 
 -- 01, Damaged: a length or a stored byte that the layout gives no meaning, or orders that are damaged
 unfoldable pub sound : List ℕ → Bool
-sound s =
-    ltb 0 (limitOf (length s)) && leb (countIn s) (limitOf (length s)) && leb (getD s 4 0) 1 && all isZero (part s 5 3)
-    && slotsSound s
+sound s = ltb 0 (limitOf (length s)) && leb (countIn s) (limitOf (length s)) && headerSound s && slotsSound s
 
 -- 01, Refusals by number, 4 and 5: making the empty table in a lent buffer
 abbrev pub makeAnswer : List ℕ → Answer (Unit {0})

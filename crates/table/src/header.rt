@@ -1,17 +1,20 @@
 // The header of a lent table: how many orders there are, of how many that it has room for, and whether the day is over.
 ghost use Prim.Native.Nat.{_≤_};
 ghost use mathlib.Core.Path.{_≡_};
-ghost use mathlib.Core.Bool.{_&&_};
 ghost use mathlib.Core.List.{[], _∷_};
-ghost use lib.Dec.{leb, eqb};
+ghost use lib.Dec.{eqb};
 ghost use lib.ListN.{length, getD, replicate};
 ghost use lib.Seq.{sets};
-ghost use Rattle.run.specs.Runs.{part, all, isZero};
 ghost use Rattle.cell.specs.Cells.{leBytes};
-ghost use Rattle.table.specs.Tables.{countIn, limitOf};
+ghost use Rattle.table.specs.Tables.{countIn, headerSound, limitOf};
 use crate::LIMIT;
 use crate::TABLE;
 use slot::HEADER;
+
+// Bytes kept for the counts of quote rows (02, 1) and of trades (02, 7): the rest of the header.
+const SPARE: usize = 5;
+
+const SPARES: usize = HEADER - SPARE;
 
 // How many orders a table of so many bytes has room for, or 0.
 pub fn limit(len: usize) -> u64
@@ -48,12 +51,12 @@ pub fn put_over(t: &mut [u8])
     t[4] = 1;
 }
 
-// The mark of the day's end, and the three bytes behind it that must be 0.
+// The mark of the day's end, and the bytes behind it that must be 0.
 pub fn sound_header(t: &[u8]) -> bool
     requires { ⌜ 8 ≤ length (now t) ⌝ }
-    ensures { λ r. ⌜ r ≡ (leb (getD (now (t .entry)) 4 0) 1 && all isZero (part (now (t .entry)) 5 3)) ⌝ }
+    ensures { λ r. ⌜ r ≡ headerSound (now (t .entry)) ⌝ }
 {
-    (t[4] <= 1) & run::zeros(t, 5, 3)
+    (t[4] <= 1) & run::zeros(t, SPARE, SPARES)
 }
 
 // The header of a table without orders, the day not over.
