@@ -1,14 +1,17 @@
 -- The pieces of a text that begins with a run without LF, or with a piece that an LF ends.
-use Prim.Native.Nat.{ℕ}
+use Prim.Native.Nat.{ℕ, _+_, _-_, _≤_, _<_}
 use native.Mathlib.Omega.{arith}
 use mathlib.Core.Path.{_≡_, refl, sym, ap, _∙_}
-use mathlib.Core.Bool.{Bool, true, false, _||_}
+use mathlib.Core.Bool.{Bool, true, false, not, _&&_, _||_, true≢false}
 use mathlib.Core.List.{List, [], _∷_, _++_, append-assoc, append-nil}
 use borrow.Author.Tests.{eqb-false, ne-eqb}
 use lib.Dec.{eqb}
+use lib.ListN.{length, getD, take, drop, length-drop, take-append-drop}
+use lib.Seq.{drop-drop, length-take-le}
 use Rattle.run.specs.Runs.{member}
 use Rattle.piece.specs.Cuts.{Ended, Unended}
-use Rattle.piece.specs.Pieces.{joinFirst, pieces}
+use Rattle.piece.specs.Pieces.{joinFirst, pieces, pieceLength}
+use Rattle.piece.proofs.Lengths.{ends-behind}
 
 -- ---- a run without LF
 
@@ -41,6 +44,33 @@ join-one : (b : ℕ) (p : List ℕ) (ps : List (List ℕ)) → joinFirst b (join
 join-one b [] [] = refl
 join-one b (c ∷ p) [] = refl
 join-one b p (q ∷ qs) = refl
+
+-- such a run only makes the first piece longer
+pub begun-length : (p s : List ℕ) → member 10 p ≡ false → pieceLength (p ++ s) ≡ length p + pieceLength s
+begun-length [] s e = omega arith
+begun-length (b ∷ p) s e = let n = none-here b p e in rw (n .0, begun-length p s (n .1)) (omega arith)
+
+-- no LF from i to j
+runs-on : (s : List ℕ) (i j : ℕ) → i ≤ j → j ≤ length s → member 10 (take (j - i) (drop i s)) ≡ false → i + pieceLength (drop i s) ≡ j + pieceLength (drop j s)
+runs-on s i j h k e =
+    let l : length (take (j - i) (drop i s)) ≡ j - i = length-take-le (j - i) (drop i s) (rw length-drop (omega arith)) in
+    let z : i + (j - i) ≡ j = omega arith in
+    ap (λ (x : List ℕ). i + pieceLength x) (sym (take-append-drop (j - i) (drop i s)))
+    ∙ rw (begun-length (take (j - i) (drop i s)) (drop (j - i) (drop i s)) e, l, drop-drop (j - i) i s, z) (omega arith)
+
+-- two runs without LF and an LF behind them, as `is_usual` finds them
+pub usual : (s : List ℕ) (at : ℕ) (a b : Bool) → at ≤ length s → 140 ≤ length s - at → getD s (at + 139) 0 ≡ 10
+    → a ≡ member 10 (take (at + 128 - at) (drop at s)) → b ≡ member 10 (take (at + 139 - (at + 128)) (drop (at + 128) s))
+    → (not a && not b) ≡ true → pieceLength (drop at s) ≡ 140
+usual s at true b h l e p q t = absurd (true≢false (sym t))
+usual s at false true h l e p q t = absurd (true≢false (sym t))
+usual s at false false h l e p q t =
+    let whole : at + pieceLength (drop at s) ≡ at + 139 + 1 =
+    runs-on s at (at + 128) (omega arith) (omega arith) (sym p)
+    ∙ runs-on s (at + 128) (at + 139) (omega arith) (omega arith) (sym q)
+    ∙ ends-behind s (at + 139) (omega arith) e
+    in
+    omega arith
 
 pub begun : (p s : List ℕ) → member 10 p ≡ false → pieces (p ++ s) ≡ joinRun p (pieces s)
 begun [] s e = join-none (pieces s)
