@@ -21,13 +21,13 @@ pub fn is_maker(event: Event) -> bool
     ensures { λ r. ⌜ r ≡ isMaker event ⌝ }
 {
     let t = record::type_of(event);
-    (t == b'A') | rule::is_replace(t)
+    (t == b'A') | layout::is_replace(t)
 }
 
 fn is_replace(event: Event) -> bool
     ensures { λ r. ⌜ r ≡ isReplace event ⌝ }
 {
-    rule::is_replace(record::type_of(event))
+    layout::is_replace(record::type_of(event))
 }
 
 // The key of the order that a line speaks of: for U, the elder.

@@ -74,7 +74,7 @@ fn first_field(b: &[u8], odd: u8) -> u8
 pub extern "C" fn skurzelt_write(record: &[u8], line: &mut [u8]) -> u32
     ensures { λ r. ⌜ Writes (now («record» .entry)) (now (line .entry)) r (now (line .exit)) ⌝ }
 {
-    if line.len() < rule::LINE {
+    if line.len() < layout::LINE {
         return code(Refusal::NoRoom);
     }
     if record.len() != image::RECORD {

@@ -11,14 +11,14 @@ use layout::Record;
 use layout::Trade;
 
 // As long as the fields of its line.
-pub const RECORD: usize = rule::FIELDS;
+pub const RECORD: usize = layout::FIELDS;
 
 // The field of the first byte without meaning, or 0.
 pub fn unmeant(b: &[u8]) -> u8
     requires { ⌜ length (now b) ≡ 138 ⌝ }
     ensures { λ r. ⌜ r ≡ Images·unmeant (now (b .entry)) ⌝ }
 {
-    if !run::member(b[8], &rule::TYPES) {
+    if !run::member(b[8], &layout::TYPES) {
         return 2;
     }
     if odd_liquidity(b) {
@@ -40,7 +40,7 @@ fn odd_liquidity(b: &[u8]) -> bool
     requires { ⌜ length (now b) ≡ 138 ⌝ }
     ensures { λ r. ⌜ r ≡ oddLiquidity (now (b .entry)) ⌝ }
 {
-    !rule::is_trade(b[8]) & (b[15] != b' ')
+    !layout::is_trade(b[8]) & (b[15] != b' ')
 }
 
 fn odd_id(b: &[u8], at: usize) -> bool
@@ -48,7 +48,7 @@ fn odd_id(b: &[u8], at: usize) -> bool
     requires { ⌜ at + 9 ≤ 138 ⌝ }
     ensures { λ r. ⌜ r ≡ oddId (now (b .entry)) at ⌝ }
 {
-    (b[at + 8] != 0) | (!rule::is_trade(b[8]) & (cell::get(b, at, 8) != 0))
+    (b[at + 8] != 0) | (!layout::is_trade(b[8]) & (cell::get(b, at, 8) != 0))
 }
 
 fn numbers(b: &[u8]) -> Numbers
@@ -81,7 +81,7 @@ pub fn store(r: Record, piece: &[u8], out: &mut [u8])
     requires { ⌜ 138 ≤ length (now out) ⌝ }
     ensures { λ _. ⌜ now (out .exit) ≡ sets (now (out .entry)) 0 (imageOf r) ⌝ }
 {
-    run::store(out, 0, &piece[0..rule::FIELDS]);
+    run::store(out, 0, &piece[0..layout::FIELDS]);
     put_early(r, out);
     put_late(r, out);
     let event = r.event;

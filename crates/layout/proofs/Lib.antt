@@ -1,3 +1,5 @@
+-- What is said of fields that go by type or denominator
+pub mod ByType
 -- A record and its 24 fields are one to one
 pub mod Values
 -- A lawful piece says a lawful record, and conversely

@@ -1,5 +1,7 @@
 -- The 24 fields of a line
 pub mod Layout
+-- Answers about fields that some lines leave blank
+pub mod ByType
 -- The 24 values of a line, joined and taken apart
 pub mod Records
 -- Reading a piece and writing a record, refusals 1 to 4

@@ -1,4 +1,31 @@
 // What a line says, as code holds it. The written rules of a line stand in specs/, their laws in proofs/.
+mod rules;
+
+pub use rules::CAPACITIES;
+pub use rules::DENOMINATORS;
+pub use rules::FIELDS;
+pub use rules::FIRST_DATE;
+pub use rules::LAST_DATE;
+pub use rules::LAST_TIMESTAMP;
+pub use rules::LAST_YEAR;
+pub use rules::LEAST_CONTRACTS;
+pub use rules::LINE;
+pub use rules::MONTHS;
+pub use rules::MOST_CONTRACTS;
+pub use rules::MOST_ID;
+pub use rules::MOST_PRICE;
+pub use rules::MOST_STRIKE;
+pub use rules::POSITIONS;
+pub use rules::SIDES;
+pub use rules::TYPES;
+pub use rules::id;
+pub use rules::is_replace;
+pub use rules::is_trade;
+pub use rules::lawful_strike;
+pub use rules::least_strike;
+pub use rules::liquidity;
+pub use rules::replaced;
+pub use rules::within;
 
 // What only executions and breaks carry.
 pub struct Trade {

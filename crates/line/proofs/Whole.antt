@@ -16,7 +16,7 @@ use Rattle.layout.specs.declared.Event.the-variants.{Accepted, Executed, Cancel
 use Rattle.layout.specs.declared.Numbers.{Numbers}
 use Rattle.layout.specs.declared.Record.{Record}
 use Rattle.layout.specs.declared.Trade.{Trade}
-use Rattle.rule.specs.ByType.{idValue}
+use Rattle.layout.specs.ByType.{idValue}
 use Rattle.line.specs.Groups.{valuesOf, readingFrom}
 use Rattle.line.specs.declared.Outcome.the-variants.{Line}
 use Rattle.line.specs.declared.Reading.{Reading}

@@ -12,7 +12,7 @@ use Rattle.layout.specs.Layout.{isTrade}
 use Rattle.layout.specs.Line.{layoutOf}
 use Rattle.layout.specs.Records.{recordOf, recordFrom}
 use Rattle.layout.specs.declared.Numbers.{Numbers}
-use Rattle.rule.specs.ByType.{idValue}
+use Rattle.layout.specs.ByType.{idValue}
 use Rattle.line.specs.Promises.{blankRecord}
 use Rattle.line.specs.declared.Group.{Group}
 use Rattle.line.specs.declared.Group.the-variants.{Lawful, Refused as Group·Refused}

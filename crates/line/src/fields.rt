@@ -28,13 +28,13 @@ pub fn read(piece: &[u8]) -> Reading
             line: blank_record(),
         };
     }
-    if piece.len() != rule::LINE {
+    if piece.len() != layout::LINE {
         return refused(Refusal::NoLine);
     }
-    if !is_crlf(&piece[rule::FIELDS..]) {
+    if !is_crlf(&piece[layout::FIELDS..]) {
         return refused(Refusal::NoLine);
     }
-    if !kept::all_of(&piece[0..rule::FIELDS], Class::Printable) {
+    if !kept::all_of(&piece[0..layout::FIELDS], Class::Printable) {
         return refused(Refusal::BadByte);
     }
     by_fields(piece)
@@ -159,22 +159,22 @@ fn event_fields(s: &[u8]) -> Group
     requires { ⌜ length (now s) ≡ 140 ⌝ }
     ensures { λ r. ⌜ Says 0 6 withTimestamp (now (s .entry)) r ⌝ }
 {
-    let Number::Value(timestamp) = digits::number(&s[0..8], 0, rule::LAST_TIMESTAMP) else {
+    let Number::Value(timestamp) = digits::number(&s[0..8], 0, layout::LAST_TIMESTAMP) else {
         return Group::Refused(Refusal::Field(1));
     };
-    let Bytes::Lawful = kept::code(&s[8..9], &rule::TYPES) else {
+    let Bytes::Lawful = kept::code(&s[8..9], &layout::TYPES) else {
         return Group::Refused(Refusal::Field(2));
     };
     let Bytes::Lawful = kept::text(&s[9..13]) else {
         return Group::Refused(Refusal::Field(3));
     };
-    let Bytes::Lawful = kept::code(&s[13..14], &rule::CAPACITIES) else {
+    let Bytes::Lawful = kept::code(&s[13..14], &layout::CAPACITIES) else {
         return Group::Refused(Refusal::Field(4));
     };
-    let Bytes::Lawful = kept::code(&s[14..15], &rule::POSITIONS) else {
+    let Bytes::Lawful = kept::code(&s[14..15], &layout::POSITIONS) else {
         return Group::Refused(Refusal::Field(5));
     };
-    let Bytes::Lawful = rule::liquidity(&s[15..16], rule::is_trade(s[8])) else {
+    let Bytes::Lawful = layout::liquidity(&s[15..16], layout::is_trade(s[8])) else {
         return Group::Refused(Refusal::Field(6));
     };
     let mut n = no_numbers();
@@ -202,7 +202,7 @@ fn account_fields(s: &[u8]) -> Group
     let Bytes::Lawful = kept::text(&s[36..56]) else {
         return Group::Refused(Refusal::Field(11));
     };
-    let Bytes::Lawful = rule::replaced(&s[56..76], rule::is_replace(s[8])) else {
+    let Bytes::Lawful = layout::replaced(&s[56..76], layout::is_replace(s[8])) else {
         return Group::Refused(Refusal::Field(12));
     };
     Group::Lawful(no_numbers())
@@ -216,20 +216,20 @@ fn order_fields(s: &[u8]) -> Group
     let Bytes::Lawful = kept::hex(&s[76..85]) else {
         return Group::Refused(Refusal::Field(13));
     };
-    let Bytes::Lawful = kept::code(&s[85..86], &rule::SIDES) else {
+    let Bytes::Lawful = kept::code(&s[85..86], &layout::SIDES) else {
         return Group::Refused(Refusal::Field(14));
     };
     let Number::Value(contracts) = digits::number(
         &s[86..92],
-        rule::LEAST_CONTRACTS,
-        rule::MOST_CONTRACTS,
+        layout::LEAST_CONTRACTS,
+        layout::MOST_CONTRACTS,
     ) else {
         return Group::Refused(Refusal::Field(15));
     };
     let Bytes::Lawful = kept::text(&s[92..98]) else {
         return Group::Refused(Refusal::Field(16));
     };
-    let Bytes::Lawful = kept::code(&s[98..99], &rule::MONTHS) else {
+    let Bytes::Lawful = kept::code(&s[98..99], &layout::MONTHS) else {
         return Group::Refused(Refusal::Field(17));
     };
     let mut n = no_numbers();
@@ -242,19 +242,20 @@ fn price_fields(s: &[u8]) -> Group
     requires { ⌜ length (now s) ≡ 140 ⌝ }
     ensures { λ r. ⌜ Says 17 22 withSeries (now (s .entry)) r ⌝ }
 {
-    let Number::Value(date) = digits::exactly(&s[99..101], rule::FIRST_DATE, rule::LAST_DATE) else {
+    let Number::Value(date) = digits::exactly(&s[99..101], layout::FIRST_DATE, layout::LAST_DATE)
+    else {
         return Group::Refused(Refusal::Field(18));
     };
-    let Number::Value(year) = digits::exactly(&s[101..103], 0, rule::LAST_YEAR) else {
+    let Number::Value(year) = digits::exactly(&s[101..103], 0, layout::LAST_YEAR) else {
         return Group::Refused(Refusal::Field(19));
     };
-    let Bytes::Lawful = kept::code(&s[103..104], &rule::DENOMINATORS) else {
+    let Bytes::Lawful = kept::code(&s[103..104], &layout::DENOMINATORS) else {
         return Group::Refused(Refusal::Field(20));
     };
     let Number::Value(strike) = digits::exactly(
         &s[104..110],
-        rule::least_strike(s[103]),
-        rule::MOST_STRIKE,
+        layout::least_strike(s[103]),
+        layout::MOST_STRIKE,
     ) else {
         return Group::Refused(Refusal::Field(21));
     };
@@ -274,11 +275,11 @@ fn trade_fields(s: &[u8]) -> Group
     requires { ⌜ length (now s) ≡ 140 ⌝ }
     ensures { λ r. ⌜ Says 22 24 withIds (now (s .entry)) r ⌝ }
 {
-    let trade = rule::is_trade(s[8]);
-    let Number::Value(match_id) = rule::id(&s[120..129], trade) else {
+    let trade = layout::is_trade(s[8]);
+    let Number::Value(match_id) = layout::id(&s[120..129], trade) else {
         return Group::Refused(Refusal::Field(23));
     };
-    let Number::Value(cross_id) = rule::id(&s[129..138], trade) else {
+    let Number::Value(cross_id) = layout::id(&s[129..138], trade) else {
         return Group::Refused(Refusal::Field(24));
     };
     let mut n = no_numbers();

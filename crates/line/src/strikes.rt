@@ -24,10 +24,10 @@ fn unit(denominator: u8) -> u64
 pub fn strike_value(denominator: u8, digits: u64) -> StrikeValue
     ensures { λ x. ⌜ StrikeValued denominator digits x ⌝ }
 {
-    if !run::member(denominator, &rule::DENOMINATORS) {
+    if !run::member(denominator, &layout::DENOMINATORS) {
         return StrikeValue::Refused(Refusal::Field(20));
     }
-    if !rule::strike(denominator, digits) {
+    if !layout::lawful_strike(denominator, digits) {
         return StrikeValue::Refused(Refusal::Field(21));
     }
     let value = digits * unit(denominator);
@@ -40,7 +40,7 @@ fn form_under(denominator: u8, value: u64, other: StrikeForm) -> StrikeForm
 {
     let unit = unit(denominator);
     let digits = value / unit;
-    if (value % unit == 0) & rule::strike(denominator, digits) {
+    if (value % unit == 0) & layout::lawful_strike(denominator, digits) {
         return StrikeForm::Form(Strike {
             denominator,
             digits,

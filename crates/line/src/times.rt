@@ -8,7 +8,7 @@ use refusal::Refusal;
 pub fn clock(timestamp: u64) -> TimeOfDay
     ensures { λ x. ⌜ Clocked timestamp x ⌝ }
 {
-    if !rule::within(timestamp, 0, rule::LAST_TIMESTAMP) {
+    if !layout::within(timestamp, 0, layout::LAST_TIMESTAMP) {
         return TimeOfDay::Refused(Refusal::Field(1));
     }
     TimeOfDay::Time(Clock {

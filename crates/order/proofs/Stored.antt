@@ -16,7 +16,7 @@ use Rattle.order.specs.declared.Figures.{Figures}
 use Rattle.order.specs.declared.Order.{Order}
 use Rattle.order.specs.declared.Series.{Series}
 use Rattle.run.proofs.Tests.{same-test}
-use Rattle.rule.proofs.Answers.{price-most}
+use Rattle.layout.proofs.ByType.{price-most}
 use Rattle.order.specs.Stored.{lawfulKey, lawfulSeries, soundFigures, soundOrder}
 
 pub text-lawful : (w : ℕ) (b : List ℕ) (r : Bool) → length b ≡ w → r ≡ isText b → r ≡ lawful (kept text) w (run b)

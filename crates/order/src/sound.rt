@@ -33,11 +33,11 @@ fn lawful_series(s: Series) -> bool
 {
     let root = s.root;
     is_text(&root)
-        & run::member(s.month, &rule::MONTHS)
-        & rule::within(s.date, rule::FIRST_DATE, rule::LAST_DATE)
-        & rule::within(s.year, 0, rule::LAST_YEAR)
-        & run::member(s.denominator, &rule::DENOMINATORS)
-        & rule::strike(s.denominator, s.strike)
+        & run::member(s.month, &layout::MONTHS)
+        & layout::within(s.date, layout::FIRST_DATE, layout::LAST_DATE)
+        & layout::within(s.year, 0, layout::LAST_YEAR)
+        & run::member(s.denominator, &layout::DENOMINATORS)
+        & layout::lawful_strike(s.denominator, s.strike)
 }
 
 // The parts are taken from the size one after another, since stored figures may be too large for a sum.
@@ -61,7 +61,7 @@ fn sums(f: Figures) -> bool
 fn sound_figures(f: Figures) -> bool
     ensures { λ r. ⌜ r ≡ soundFigures f ⌝ }
 {
-    rule::within(f.size, rule::LEAST_CONTRACTS, rule::MOST_CONTRACTS)
+    layout::within(f.size, layout::LEAST_CONTRACTS, layout::MOST_CONTRACTS)
         & (f.broken <= f.executed)
         & sums(f)
 }
@@ -73,8 +73,8 @@ pub fn sound_order(o: Order) -> bool
     let series = o.series;
     let figures = o.figures;
     lawful_key(key)
-        & run::member(o.side, &rule::SIDES)
+        & run::member(o.side, &layout::SIDES)
         & lawful_series(series)
-        & rule::within(o.price, 0, rule::MOST_PRICE)
+        & layout::within(o.price, 0, layout::MOST_PRICE)
         & sound_figures(figures)
 }

@@ -108,10 +108,10 @@ fn number_fields(text: &mut [u8], b: &[u8]) {
 
 // Fields 23 and 24, missing where the type has none.
 fn id_fields(text: &mut [u8], b: &[u8]) {
-    if b.len() != rule::FIELDS {
+    if b.len() != layout::FIELDS {
         return;
     }
-    if rule::is_trade(b[8]) {
+    if layout::is_trade(b[8]) {
         put_field(text, 232, b, 120, 9, b' ');
         put_field(text, 246, b, 129, 9, b' ');
     }

@@ -19,8 +19,8 @@ use Rattle.layout.specs.Layout.{liquidities, isTrade}
 use Rattle.layout.specs.Line.{layoutFor}
 use Rattle.layout.specs.Records.{fieldsOf, typeOf, tradeOf}
 use Rattle.layout.specs.declared.Record.{Record}
-use Rattle.rule.specs.ByType.{keptOn}
-use Rattle.rule.proofs.Answers.{kept-is, price-most}
+use Rattle.layout.specs.ByType.{keptOn}
+use Rattle.layout.proofs.ByType.{kept-is, price-most}
 use Rattle.writing.specs.Writes.{checkOf, checkFrom}
 use Rattle.record.proofs.Events.{liquidity-value}
 use Rattle.writing.proofs.Fields.{fieldFor, lawfulAt}

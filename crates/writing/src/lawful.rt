@@ -11,23 +11,24 @@ use layout::Record;
 pub fn check(r: Record) -> Checked
     ensures { λ x. ⌜ x ≡ checkFrom 0 r ⌝ }
 {
-    if !rule::within(r.timestamp, 0, rule::LAST_TIMESTAMP) {
+    if !layout::within(r.timestamp, 0, layout::LAST_TIMESTAMP) {
         return Checked::Unlawful(1);
     }
     let firm = r.firm;
     let Bytes::Lawful = kept::text(&firm) else {
         return Checked::Unlawful(3);
     };
-    if !run::member(r.capacity, &rule::CAPACITIES) {
+    if !run::member(r.capacity, &layout::CAPACITIES) {
         return Checked::Unlawful(4);
     }
-    if !run::member(r.position, &rule::POSITIONS) {
+    if !run::member(r.position, &layout::POSITIONS) {
         return Checked::Unlawful(5);
     }
     let event = r.event;
     let trade = record::trade_of(event);
     let liquidity = [trade.liquidity];
-    let Bytes::Lawful = rule::liquidity(&liquidity, rule::is_trade(record::type_of(event))) else {
+    let Bytes::Lawful = layout::liquidity(&liquidity, layout::is_trade(record::type_of(event)))
+    else {
         return Checked::Unlawful(6);
     };
     account_fields(r)
@@ -59,7 +60,8 @@ fn account_fields(r: Record) -> Checked
     };
     let event = r.event;
     let replaced = r.replaced;
-    let Bytes::Lawful = rule::replaced(&replaced, rule::is_replace(record::type_of(event))) else {
+    let Bytes::Lawful = layout::replaced(&replaced, layout::is_replace(record::type_of(event)))
+    else {
         return Checked::Unlawful(12);
     };
     order_fields(r)
@@ -73,17 +75,17 @@ fn order_fields(r: Record) -> Checked
     let Bytes::Lawful = kept::hex(&reference) else {
         return Checked::Unlawful(13);
     };
-    if !run::member(r.side, &rule::SIDES) {
+    if !run::member(r.side, &layout::SIDES) {
         return Checked::Unlawful(14);
     }
-    if !rule::within(r.contracts, rule::LEAST_CONTRACTS, rule::MOST_CONTRACTS) {
+    if !layout::within(r.contracts, layout::LEAST_CONTRACTS, layout::MOST_CONTRACTS) {
         return Checked::Unlawful(15);
     }
     let root = r.root;
     let Bytes::Lawful = kept::text(&root) else {
         return Checked::Unlawful(16);
     };
-    if !run::member(r.month, &rule::MONTHS) {
+    if !run::member(r.month, &layout::MONTHS) {
         return Checked::Unlawful(17);
     }
     price_fields(r)
@@ -93,19 +95,19 @@ fn order_fields(r: Record) -> Checked
 fn price_fields(r: Record) -> Checked
     ensures { λ x. ⌜ x ≡ checkFrom 17 r ⌝ }
 {
-    if !rule::within(r.date, rule::FIRST_DATE, rule::LAST_DATE) {
+    if !layout::within(r.date, layout::FIRST_DATE, layout::LAST_DATE) {
         return Checked::Unlawful(18);
     }
-    if !rule::within(r.year, 0, rule::LAST_YEAR) {
+    if !layout::within(r.year, 0, layout::LAST_YEAR) {
         return Checked::Unlawful(19);
     }
-    if !run::member(r.denominator, &rule::DENOMINATORS) {
+    if !run::member(r.denominator, &layout::DENOMINATORS) {
         return Checked::Unlawful(20);
     }
-    if !rule::strike(r.denominator, r.strike) {
+    if !layout::lawful_strike(r.denominator, r.strike) {
         return Checked::Unlawful(21);
     }
-    if !rule::within(r.price, 0, rule::MOST_PRICE) {
+    if !layout::within(r.price, 0, layout::MOST_PRICE) {
         return Checked::Unlawful(22);
     }
     trade_fields(r)
@@ -117,10 +119,10 @@ fn trade_fields(r: Record) -> Checked
 {
     let event = r.event;
     let trade = record::trade_of(event);
-    if !rule::within(trade.match_id, 0, rule::MOST_ID) {
+    if !layout::within(trade.match_id, 0, layout::MOST_ID) {
         return Checked::Unlawful(23);
     }
-    if !rule::within(trade.cross_id, 0, rule::MOST_ID) {
+    if !layout::within(trade.cross_id, 0, layout::MOST_ID) {
         return Checked::Unlawful(24);
     }
     Checked::Lawful

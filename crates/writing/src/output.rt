@@ -16,7 +16,7 @@ use refusal::Refusal;
 pub fn write(r: Record, out: &mut [u8]) -> Written
     ensures { λ x. ⌜ Write r (now (out .entry)) x (now (out .exit)) ⌝ }
 {
-    if out.len() < rule::LINE {
+    if out.len() < layout::LINE {
         return Written::Refused(Refusal::NoRoom);
     }
     if let Checked::Unlawful(n) = lawful::check(r) {
@@ -110,8 +110,8 @@ fn trade_fields(r: Record, out: &mut [u8])
 {
     let event = r.event;
     let trade = record::trade_of(event);
-    let on = rule::is_trade(record::type_of(event));
+    let on = layout::is_trade(record::type_of(event));
     id(out, 120, on, trade.match_id);
     id(out, 129, on, trade.cross_id);
-    run::store(out, rule::FIELDS, b"\r\n");
+    run::store(out, layout::FIELDS, b"\r\n");
 }

@@ -13,8 +13,8 @@ use Rattle.layout.specs.declared.Numbers.{Numbers}
 use Rattle.line.specs.declared.Reading.{Reading}
 use Rattle.line.specs.Groups.{readingFrom}
 use Rattle.line.proofs.Steps.{past, stops, kind-good, kind-bad}
-use Rattle.rule.specs.ByType.{keptOn}
-use Rattle.rule.proofs.Answers.{kind-on-good, on-bad}
+use Rattle.layout.specs.ByType.{keptOn}
+use Rattle.layout.proofs.ByType.{kind-on-good, on-bad}
 use Rattle.line.proofs.fields.account_fields.Statement.{statement}
 use Rattle.line.proofs.fields.account_fields.Tie as tie
 

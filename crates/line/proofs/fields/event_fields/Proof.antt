@@ -9,7 +9,7 @@ use lib.Dec.{lit<}
 use lib.ListN.{getD}
 use Rattle.run.specs.Runs.{part}
 use Rattle.layout.specs.Layout.{isTrade}
-use Rattle.rule.specs.ByType.{keptOn}
+use Rattle.layout.specs.ByType.{keptOn}
 use Rattle.line.specs.Groups.{readingFrom, withTimestamp}
 use Rattle.layout.specs.Layout.{types, capacities, positions, liquidities}
 use Rattle.field.specs.Number.{number as readNumber}
@@ -17,7 +17,7 @@ use Rattle.message.specs.Rule.{number, code, text}
 use Rattle.layout.specs.declared.Numbers.{Numbers}
 use Rattle.line.specs.declared.Reading.{Reading}
 use Rattle.line.proofs.Steps.{timestampSaid, past, stops, kind-good, kind-bad, code-good, code-bad, value-good, value-bad}
-use Rattle.rule.proofs.Answers.{code-on-good, on-bad}
+use Rattle.layout.proofs.ByType.{code-on-good, on-bad}
 use Rattle.line.proofs.fields.event_fields.Statement.{statement}
 use Rattle.line.proofs.fields.event_fields.Tie as tie
 

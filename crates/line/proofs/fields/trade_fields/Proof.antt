@@ -9,12 +9,12 @@ use lib.Dec.{lit<}
 use lib.ListN.{getD}
 use Rattle.run.specs.Runs.{part}
 use Rattle.layout.specs.Layout.{isTrade}
-use Rattle.rule.specs.ByType.{idOn}
+use Rattle.layout.specs.ByType.{idOn}
 use Rattle.line.specs.Groups.{readingFrom, withIds}
 use Rattle.layout.specs.declared.Numbers.{Numbers}
 use Rattle.line.specs.declared.Reading.{Reading}
 use Rattle.line.proofs.Steps.{idsSaid, past, stops}
-use Rattle.rule.proofs.Answers.{id-good, id-bad}
+use Rattle.layout.proofs.ByType.{id-good, id-bad}
 use Rattle.line.proofs.fields.trade_fields.Statement.{statement}
 use Rattle.line.proofs.fields.trade_fields.Tie as tie
 

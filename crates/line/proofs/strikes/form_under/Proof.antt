@@ -14,19 +14,19 @@ div-digits c = unit-some (c .before .args .denominator) (c .unit .ensures)
 rem-if1 : tie.Need-rem-if1
 rem-if1 c = unit-some (c .before .args .denominator) (c .unit .ensures)
 
-strike-requires : tie.Need-strike-requires
-strike-requires c κs = search needs
+lawful-strike-requires : tie.Need-lawful-strike-requires
+lawful-strike-requires c κs = search needs
 
 returns : tie.Need-returns
 returns c =
     let a = c .before .before .before .args in
-    form-found (a .denominator) (a .value) (formSaid (a .other)) (c .before .before .unit .ensures) (c .before .strike .ensures) (c .if1 .taken)
+    form-found (a .denominator) (a .value) (formSaid (a .other)) (c .before .before .unit .ensures) (c .before .lawful-strike .ensures) (c .if1 .taken)
 
 returns-2 : tie.Need-returns-2
 returns-2 c =
     let a = c .before .before .before .args in
-    form-passed (a .denominator) (a .value) (formSaid (a .other)) (c .before .before .unit .ensures) (c .before .strike .ensures) (c .if1 .left)
+    form-passed (a .denominator) (a .value) (formSaid (a .other)) (c .before .before .unit .ensures) (c .before .lawful-strike .ensures) (c .if1 .left)
 
 pub form-under-spec : {M : Type 1} → statement M
 form-under-spec =
-    tie.close (tie.spec unit-requires div-digits rem-if1 strike-requires returns returns-2)
+    tie.close (tie.spec unit-requires div-digits rem-if1 lawful-strike-requires returns returns-2)

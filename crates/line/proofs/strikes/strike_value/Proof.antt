@@ -24,15 +24,15 @@ returns c = record { said = rw (sym (c .before .member .ensures) ∙ not-true _ 
 coded : (c : tie.Else1) → member (c .before .before .before .args .denominator) denominators ≡ true
 coded c = sym (c .before .member .ensures) ∙ not-false _ (c .if1 .left)
 
-strike-requires : tie.Need-strike-requires
-strike-requires c κs = search needs
+lawful-strike-requires : tie.Need-lawful-strike-requires
+lawful-strike-requires c κs = search needs
 
 returns-2 : tie.Need-returns-2
 unfolding strikeValue
-returns-2 c = record { said = rw (coded (c .before .before), sym (c .before .strike .ensures) ∙ not-true _ (c .if2 .taken)) }
+returns-2 c = record { said = rw (coded (c .before .before), sym (c .before .lawful-strike .ensures) ∙ not-true _ (c .if2 .taken)) }
 
 lawful : (c : tie.Else2) → let a = c .before .before .before .before .before .args in lawfulStrike (a .denominator) (a .digits) ≡ true
-lawful c = sym (c .before .strike .ensures) ∙ not-false _ (c .if2 .left)
+lawful c = sym (c .before .lawful-strike .ensures) ∙ not-false _ (c .if2 .left)
 
 unit-requires : tie.Need-unit-requires
 unit-requires c κs = search needs
@@ -53,7 +53,7 @@ strike-value-spec =
     slice-aggregate-member
     member-requires
     returns
-    strike-requires
+    lawful-strike-requires
     returns-2
     unit-requires
     mul-value

@@ -28,14 +28,14 @@ slice-aggregate-member-2 c = search needs
 member-requires-2 : tie.Need-member-requires-2
 member-requires-2 c κs = search needs
 
-strike-requires : tie.Need-strike-requires
-strike-requires c κs = search needs
+lawful-strike-requires : tie.Need-lawful-strike-requires
+lawful-strike-requires c κs = search needs
 
 returns : tie.Need-returns
 returns c =
     let s = c .before .before .before .before .before .before .before .before .before .before .args .s in
     series-lawful s _ _ _ _ _ _ (text-lawful 6 (s .root) _ (search needs) (c .before .before .before .before .before .before .before .is-text .ensures))
-    (c .before .before .before .before .before .member .ensures) (c .before .before .before .before .within .ensures) (c .before .before .before .within2 .ensures) (c .before .member2 .ensures) (c .strike .ensures)
+    (c .before .before .before .before .before .member .ensures) (c .before .before .before .before .within .ensures) (c .before .before .before .within2 .ensures) (c .before .member2 .ensures) (c .lawful-strike .ensures)
 
 pub lawful-series-spec : {M : Type 1} → statement M
 lawful-series-spec =
@@ -49,5 +49,5 @@ lawful-series-spec =
     within-requires-2
     slice-aggregate-member-2
     member-requires-2
-    strike-requires
+    lawful-strike-requires
     returns)

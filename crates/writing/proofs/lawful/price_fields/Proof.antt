@@ -48,18 +48,18 @@ past-20 c =
     let s = c .before .before .before .before .before .before .before in
     test-passes 19 (s .args .r) (lit< tt) (c .before .member .ensures) (c .if3 .left) ∙ past-19 (c .before .before .before)
 
-strike-requires : tie.Need-strike-requires
-strike-requires c κs = search needs
+lawful-strike-requires : tie.Need-lawful-strike-requires
+lawful-strike-requires c κs = search needs
 
 returns-4 : tie.Need-returns-4
 returns-4 c =
     let s = c .before .before .before .before .before .before .before .before .before in
-    test-fails 20 (s .args .r) (lit< tt) (c .before .strike .ensures) (c .if4 .taken) ∙ past-20 (c .before .before)
+    test-fails 20 (s .args .r) (lit< tt) (c .before .lawful-strike .ensures) (c .if4 .taken) ∙ past-20 (c .before .before)
 
 past-21 : (c : tie.Else4) → Past 17 21 (c .before .before .before .before .before .before .before .before .before .args .r)
 past-21 c =
     let s = c .before .before .before .before .before .before .before .before .before in
-    test-passes 20 (s .args .r) (lit< tt) (c .before .strike .ensures) (c .if4 .left) ∙ past-20 (c .before .before)
+    test-passes 20 (s .args .r) (lit< tt) (c .before .lawful-strike .ensures) (c .if4 .left) ∙ past-20 (c .before .before)
 
 within-requires-3 : tie.Need-within-requires-3
 within-requires-3 c κs = search needs
@@ -91,7 +91,7 @@ price-fields-spec =
     slice-aggregate-member
     member-requires
     returns-3
-    strike-requires
+    lawful-strike-requires
     returns-4
     within-requires-3
     returns-5

@@ -1,8 +1,8 @@
--- `rule::strike` meets its contract.
+-- `layout::rules::lawful_strike` meets its contract.
 use mathlib.Core.Path.{_∙_}
 use borrow.Author.Needs.{needs}
-use Rattle.rule.proofs.strike.Statement.{statement}
-use Rattle.rule.proofs.strike.Tie as tie
+use Rattle.layout.proofs.rules.lawful_strike.Statement.{statement}
+use Rattle.layout.proofs.rules.lawful_strike.Tie as tie
 
 least-strike-requires : tie.Need-least-strike-requires
 least-strike-requires c κs = search needs
@@ -13,5 +13,5 @@ within-requires c κs = search needs
 returns : tie.Need-returns
 returns c = c .within .ensures ∙ rw (c .before .least-strike .ensures)
 
-pub strike-spec : {M : Type 1} → statement M
-strike-spec = tie.close (tie.spec least-strike-requires within-requires returns)
+pub lawful-strike-spec : {M : Type 1} → statement M
+lawful-strike-spec = tie.close (tie.spec least-strike-requires within-requires returns)

@@ -1,10 +1,10 @@
--- `rule::liquidity` meets its contract.
+-- `layout::rules::liquidity` meets its contract.
 use borrow.Author.Needs.{needs}
 use denote.Ref.{now}
 use Rattle.layout.specs.Layout.{liquidities}
-use Rattle.rule.proofs.Answers.{code-on, blank-off}
-use Rattle.rule.proofs.liquidity.Statement.{statement}
-use Rattle.rule.proofs.liquidity.Tie as tie
+use Rattle.layout.proofs.ByType.{code-on, blank-off}
+use Rattle.layout.proofs.rules.liquidity.Statement.{statement}
+use Rattle.layout.proofs.rules.liquidity.Tie as tie
 
 slice-aggregate-code : tie.Need-slice-aggregate-code
 slice-aggregate-code c = search needs

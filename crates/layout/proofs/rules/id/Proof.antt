@@ -1,9 +1,9 @@
--- `rule::id` meets its contract.
+-- `layout::rules::id` meets its contract.
 use borrow.Author.Needs.{needs}
 use denote.Ref.{now}
-use Rattle.rule.proofs.Answers.{number-on, no-id, bad-id}
-use Rattle.rule.proofs.id.Statement.{statement}
-use Rattle.rule.proofs.id.Tie as tie
+use Rattle.layout.proofs.ByType.{number-on, no-id, bad-id}
+use Rattle.layout.proofs.rules.id.Statement.{statement}
+use Rattle.layout.proofs.rules.id.Tie as tie
 
 number-requires : tie.Need-number-requires
 number-requires c κs = search needs

@@ -1,9 +1,9 @@
--- `rule::replaced` meets its contract.
+-- `layout::rules::replaced` meets its contract.
 use borrow.Author.Needs.{needs}
 use denote.Ref.{now}
-use Rattle.rule.proofs.Answers.{text-on, blank-off}
-use Rattle.rule.proofs.replaced.Statement.{statement}
-use Rattle.rule.proofs.replaced.Tie as tie
+use Rattle.layout.proofs.ByType.{text-on, blank-off}
+use Rattle.layout.proofs.rules.replaced.Statement.{statement}
+use Rattle.layout.proofs.rules.replaced.Tie as tie
 
 text-requires : tie.Need-text-requires
 text-requires c κs = search needs

@@ -5,9 +5,9 @@ ghost use mathlib.Core.Path.{_≡_};
 ghost use lib.Dec.{eqb, leb};
 ghost use lib.ListN.{length};
 ghost use Rattle.message.specs.Rule.{code, text, kept as Rule·kept};
 ghost use Rattle.layout.specs.Layout.{isTrade, liquidities, leastStrike};
 ghost use Rattle.layout.specs.Strikes.{lawfulStrike};
-ghost use Rattle.rule.specs.ByType.{keptOn, idOn};
+ghost use Rattle.layout.specs.ByType.{keptOn, idOn};
 use field::Bytes;
 use field::Number;
 use field::digits;
@@ -113,7 +113,7 @@ pub fn least_strike(denominator: u8) -> u64
 }
 
 // A strike's six digits under a denominator.
-pub fn strike(denominator: u8, digits: u64) -> bool
+pub fn lawful_strike(denominator: u8, digits: u64) -> bool
     ensures { λ x. ⌜ x ≡ lawfulStrike denominator digits ⌝ }
 {
     within(digits, least_strike(denominator), MOST_STRIKE)

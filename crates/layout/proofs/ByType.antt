@@ -15,8 +15,8 @@ use Rattle.field.specs.declared.Bytes.the-variants.{Lawful, Unlawful}
 use Rattle.field.specs.declared.Number.{Number}
 use Rattle.field.specs.declared.Number.the-variants.{Value as Number·Value, Bad}
 use Rattle.message.specs.Rule.{Rule, code, kept, text, blank, Kind, isKind, run, Got, got, broken, reads, gotNumber, gotRun}
 use Rattle.layout.specs.Layout.{leastStrike, idNumber}
-use Rattle.rule.specs.ByType.{keptGot, keptOn, idGot, idOn, idValue}
+use Rattle.layout.specs.ByType.{keptGot, keptOn, idGot, idOn, idValue}
 
 -- a test and its answer
 pub kept-is : (a : Bool) (b : List ℕ) → keptAnswer a ≡ keptGot (gotRun a b)

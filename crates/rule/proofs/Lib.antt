@@ -1,2 +1,0 @@
--- What is said of fields that go by type or denominator
-pub mod Answers

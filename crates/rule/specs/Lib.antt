@@ -1,2 +1,0 @@
--- Answers about fields that some lines leave blank
-pub mod ByType
