@@ -60,9 +60,6 @@ stretchText n s most members = walkText (ordersIn 0 n s) (take most members)
 abbrev pub textLeft : ℕ → List ℕ → ℕ → Turn → List ℕ
 textLeft n s most x = stretchText n s most (membersLeft n (eldersIn n s) x)
 
-abbrev pub familiesText : ℕ → List ℕ → ℕ → ℕ → List ℕ
-familiesText n s i f = walkText (ordersIn 0 n s) (familiesFrom (eldersIn n s) i f)
-
 -- a turn among n orders
 pub record Stands (n : ℕ) (x : Turn) : Type 0 where
   pub inside : x .place < n
