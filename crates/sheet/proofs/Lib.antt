@@ -16,9 +16,11 @@ pub mod Fitting
 pub mod Rowing
 -- Each way out of the sheet keeps the promise
 pub mod Answering
+-- Pages joined are one page; each way out of a page keeps its promise
+pub mod Paging
 -- 24 bytes and 78 a row are always enough
 pub mod Bound
--- Two outcomes that the promise allows are equal
+-- Two outcomes that a promise allows are equal
 pub mod Determined
 -- A text that opens with N and F says both
 pub mod Headings

@@ -1,5 +1,5 @@
 -- From one member of the listing to the next: those behind a member begin with the order that is found, or there is none.
-use Prim.Native.Nat.{ℕ, zero, suc, _+_, _≤_, _<_}
+use Prim.Native.Nat.{ℕ, zero, suc, _+_, _-_, _≤_, _<_}
 use native.Mathlib.Numerals.{add-one}
 use native.Mathlib.Omega.{arith}
 use mathlib.Core.Path.{_≡_, refl, sym, ap, _∙_}
@@ -8,7 +8,7 @@ use mathlib.Core.List.{List, [], _∷_, _++_}
 use borrow.Author.Tests.{lt-ltb, le-ltb, ltb-false, ltb-true}
 use lib.Dec.{ltb, eqb, eqb·suc-zero}
 use lib.ListN.{length, drop, length-drop}
-use lib.Seq.{drop-cons}
+use lib.Seq.{drop-cons, drop-nil}
 use Rattle.day.specs.Listing.{Member}
 use Rattle.day.specs.Walk.{member, below, families}
 use Rattle.day.proofs.Listings.{by-test}
@@ -130,3 +130,26 @@ module _ (es : List ℕ) (n : ℕ) (e : length es ≡ n) where
 
     pub last-turn : y ≤ 0 → (r : ℕ) → r ≡ seek 0 (x .root + 1) (drop (x .root + 1) es) → membersLeft n es (turn r r (x .family + 1) 1) ≡ membersBehind es x
     last-turn h r p = next-family (x .family + 1) (x .root + 1) r p ∙ last-members h
+
+-- ---- members passed over
+
+-- so many are still to be passed over from a turn on
+pub record Skipping (es : List ℕ) (n count left : ℕ) (x : Turn) : Type 0 where
+  pub same : drop left (membersLeft n es x) ≡ drop count (families 1 0 es)
+  pub stands : StandsOrEnds n x
+
+module _ {es : List ℕ} {n count left : ℕ} {x : Turn} (p : Skipping es n count left x) where
+  pub skipped-all : left ≡ 0 → membersLeft n es x ≡ drop count (families 1 0 es)
+  skipped-all e = rw e at (p .same)
+
+  pub skipped-past : n ≤ x .place → membersLeft n es x ≡ drop count (families 1 0 es)
+  skipped-past h =
+      let none : membersLeft n es x ≡ [] = rw (le-ltb (x .place) n h) in
+      none ∙ (rw (none, drop-nil) at (p .same))
+
+  pub skipping-on : (y : Turn) → x .place < n → 0 < left → membersLeft n es y ≡ membersBehind es x → StandsOrEnds n y
+      → Skipping es n count (left - 1) y
+  skipping-on y h some e w = record { same = one left (left - 1) (omega arith) ∙ p .same; stands = w }
+    where
+      one : (k m : ℕ) → k ≡ suc m → drop m (membersLeft n es y) ≡ drop k (membersLeft n es x)
+      one k m q = rw (q, e, lt-ltb (x .place) n h)

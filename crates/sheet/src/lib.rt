@@ -2,6 +2,7 @@
 ghost use mathlib.Core.Path.{_≡_};
 ghost use mathlib.Core.Bool.{true};
 ghost use Rattle.table.specs.Tables.{sound};
+ghost use Rattle.sheet.specs.Pages.{Pages, pageOf};
 ghost use Rattle.sheet.specs.Promises.{Sheets};
 
 mod family;
@@ -68,4 +69,19 @@ pub fn write_sound(t: &[u8], out: &mut [u8]) -> Writing
     let wrote = heading::write(n as u64, families, out);
     let rows = family::rows(t, &kin, n, first, n, &mut out[wrote..]);
     Writing::Done(wrote + rows)
+}
+
+// A page of the sheet without its heading: so many rows behind the first ones, which are passed over.
+pub fn page_sound(t: &[u8], passed: usize, most: usize, out: &mut [u8]) -> Writing
+    requires { ⌜ sound (now t) ≡ true ⌝ }
+    ensures { λ x. ⌜ Pages (pageOf (now (t .entry)) passed most) (now (out .entry)) x (now (out .exit)) ⌝ }
+{
+    let n = header::count(t) as usize;
+    let mut kin = [0u16; ORDERS];
+    kin::note_all(t, n, &mut kin);
+    let first = walk::skip(t, &kin, n, passed);
+    if !room::rows_fit(t, &kin, n, first, most, out.len()) {
+        return Writing::Refused(Refusal::NoRoom);
+    }
+    Writing::Done(family::rows(t, &kin, n, first, most, out))
 }

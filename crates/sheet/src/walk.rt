@@ -80,3 +80,21 @@ pub fn next(t: &[u8], kin: &[u16], n: usize, x: Turn) -> Turn
         rank: 1,
     }
 }
+
+// The turn behind so many rows.
+pub fn skip(t: &[u8], kin: &[u16], n: usize, count: usize) -> Turn
+    requires { ⌜ Kin n (now t) (now kin) ⌝ }
+    ensures { λ x. ⌜ membersLeft n (eldersIn n (now (t .entry))) x ≡ drop count (families 1 0 (eldersIn n (now (t .entry)))) ⌝ }
+    ensures { λ x. ⌜ StandsOrEnds n x ⌝ }
+{
+    let mut left = count;
+    let mut x = start(t, n);
+    while 0 < left {
+        if n <= x.place {
+            return x;
+        }
+        left -= 1;
+        x = next(t, kin, n, x);
+    }
+    x
+}
