@@ -6,7 +6,7 @@ use borrow.Author.Tests.{not-true, not-false}
 use denote.Ref.{now}
 use lib.ListN.{length, length-replicate}
 use Rattle.table.proofs.Limits.{limit-most}
-use Rattle.table.proofs.Whole.{whole}
+use Rattle.table.proofs.Sound.{header-there, sound-apart}
 use Rattle.sheet.specs.Pages.{pageOf}
 use Rattle.sheet.specs.Walk.{textLeft}
 use Rattle.sheet.proofs.Answering.{slots-inside}
@@ -15,7 +15,7 @@ use Rattle.sheet.proofs.page_sound.Statement.{statement}
 use Rattle.sheet.proofs.page_sound.Tie as tie
 
 count-requires : tie.Need-count-requires
-count-requires c κs = whole (now (c .before .before .args .t)) (c .before .before .pre) .header
+count-requires c κs = header-there (now (c .before .before .args .t)) (c .before .before .pre)
 
 slice-aggregate-note-all : tie.Need-slice-aggregate-note-all
 slice-aggregate-note-all c = search needs
@@ -25,7 +25,7 @@ note-all-requires c κs =
     let m = c .before .before .before .before in
     let s = now (m .args .t) in
     let n = c .before .count in
-    let few = whole s (m .pre) .fits in
+    let few = sound-apart s (m .pre) .bytes .few in
     let most = limit-most (length s) in
     let slots = slots-inside s (n .result) (m .pre) (n .ensures) in
     (slots, (rw length-replicate (omega (arith, n .ensures, few, most)), omega (arith, n .ensures, few, most)))

@@ -1,11 +1,9 @@
--- `sheet::kin::note` meets its contract.
+-- `sheet::kin::note` meets its contract: an elder that is no earlier order, or has a younger one, keeps what is noted.
+use Prim.Native.Nat.{_-_}
 use native.Mathlib.Omega.{arith}
-use mathlib.Core.Path.{_≡_, sym, ap, _∙_}
 use borrow.Author.Needs.{needs}
 use denote.Ref.{now}
-use lib.ListN.{getD, length-set, set}
-use Prim.Native.Nat.{_-_, _+_, _<_}
-use lib.Seq.{getD-set-other}
+use lib.ListN.{length-set}
 use Rattle.sheet.proofs.Noting.{is-noted, not-noted, has-one}
 use Rattle.sheet.proofs.kin.note.Statement.{statement}
 use Rattle.sheet.proofs.kin.note.Tie as tie

@@ -1,4 +1,4 @@
--- `sheet::kin::younger` meets its contract.
+-- `sheet::kin::younger` meets its contract: it reads what is noted.
 use native.Mathlib.Omega.{arith}
 use borrow.Author.Needs.{needs}
 use Rattle.sheet.proofs.kin.younger.Statement.{statement}
