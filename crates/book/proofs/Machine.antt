@@ -1,13 +1,12 @@
 -- A sound table after a piece: it holds what the state machine says, and it is sound again.
-use Prim.Native.Nat.{ℕ, zero, suc, _+_, _<_}
+use Prim.Native.Nat.{ℕ}
 use native.Mathlib.Omega.{arith}
 use mathlib.Core.Path.{_≡_, refl}
 use mathlib.Core.Bool.{Bool, true, false, cond}
-use mathlib.Core.List.{List, [], _∷_, _++_}
-use borrow.Author.Tests.{leb-true, leb-false, eqb-true}
-use lib.Dec.{leb, eqb}
-use lib.ListN.{length, length-append, List·getD-append}
-use lib.Seq.{getD-append-seam}
+use mathlib.Core.List.{List}
+use borrow.Author.Tests.{leb-false, eqb-true}
+use lib.Dec.{eqb}
+use lib.ListN.{length}
 use Rattle.refusal.specs.Answer.{Answer, value, refused}
 use Rattle.layout.specs.Line.{Said, endOfDay, line, read}
 use Rattle.layout.specs.declared.Event.{Event}
@@ -17,43 +16,21 @@ use Rattle.order.specs.Figure.{passedOn}
 use Rattle.order.specs.Names.{elderKeyOf}
 use Rattle.order.specs.declared.Key.{Key}
 use Rattle.order.specs.declared.Order.{Order}
-use Rattle.day.specs.Damage.{allSound, eldersOf, earlier, undamaged}
-use Rattle.order.specs.Stored.{soundOrder}
+use Rattle.day.specs.Damage.{undamaged}
 use Rattle.day.specs.History.{isNew}
 use Rattle.day.specs.Machine.{place, amend, withFigures, newOrder, refusalOf, bookEvent, accept, bookRead}
-use Rattle.day.specs.Tables.{Table, withOrders, Booked}
+use Rattle.day.specs.Tables.{withOrders, Booked}
 use Rattle.day.specs.Machine.{book as bookDay}
-use Rattle.run.proofs.Tests.{both}
 use Rattle.day.proofs.Admitted.{Admitted, admitted, Spoken, spoken}
 use Rattle.day.proofs.Orders.{Finds, stands, length-amend}
 use Rattle.day.proofs.Sound.{book-undamaged}
-use Rattle.day.proofs.Undamaged.{apart}
-use Rattle.slot.specs.Slots.{Fits}
 use Rattle.table.specs.Changes.{changed}
 use Rattle.table.specs.Tables.{limitOf, tableIn, sound}
-use Rattle.table.proofs.Limits.{limit-small}
-use Rattle.slot.proofs.Room.{sound-fits}
-use Rattle.table.proofs.Holding.{Holds, AllFit, length-changed, changed-holds, appended-holds, over-holds}
+use Rattle.table.proofs.Fitting.{AllFit, all-fit, last-fits, others-fit}
+use Rattle.table.proofs.Holding.{Holds, length-changed, changed-holds, appended-holds, over-holds}
 use Rattle.table.proofs.Sound.{sound-apart, holds-sound}
 use Rattle.book.specs.Bytes.{eventBytes, acceptBytes, readBytes, bookBytes, bookAnswer}
 use Rattle.book.proofs.Lengths.{booked-length}
-
--- ---- undamaged orders have room in their slots
-
-fit-from : (k : ℕ) (os : List Order) → k + length os < 65536 → earlier k (eldersOf os) ≡ true → allSound os ≡ true → AllFit os
-fit-from k [] h a s none i l = absurd (omega arith)
-fit-from k (o ∷ os) h a s none zero l =
-    let e = leb-true (o .elder) k (both (leb (o .elder) k) (earlier (k + 1) (eldersOf os)) a .0) in
-    sound-fits o (both (soundOrder o) (allSound os) s .0) (omega arith)
-fit-from k (o ∷ os) h a s none (suc i) l =
-    fit-from (k + 1) os (omega arith) (both (leb (o .elder) k) (earlier (k + 1) (eldersOf os)) a .1) (both (soundOrder o) (allSound os) s .1) none i
-    (omega arith)
-
-last-fits : (os : List Order) (o : Order) → AllFit (os ++ (o ∷ [])) → Fits o
-last-fits os o f = rw (getD-append-seam os o [] o) at (f o (length os) (rw length-append (omega arith)))
-
-others-fit : (os : List Order) (o : Order) → AllFit (os ++ (o ∷ [])) → AllFit os
-others-fit os o f none i l = rw (List·getD-append os (o ∷ []) none i l) at (f none i (rw length-append (omega arith)))
 
 -- ---- an accepted line
 
@@ -90,9 +67,6 @@ module _ {s : List ℕ} (h : Holds s (tableIn s)) where
   abbrev limit : ℕ
   limit = limitOf (length s)
 
-  fit : (t : Table) → undamaged limit t ≡ true → AllFit (t .orders)
-  fit t u = let a = apart limit t u in fit-from 0 (t .orders) (omega (arith, a .fits, limit-small (length s))) (a .early) (a .sound)
-
   -- what the state machine says once the test for a refusal came out as b
   abbrev after : Said → Bool → Booked
   after x b =
@@ -105,7 +79,7 @@ module _ {s : List ℕ} (h : Holds s (tableIn s)) where
   said-holds endOfDay true z u = over-holds h
   said-holds (line r) true z u =
       let a = admitted limit (tableIn s) r (eqb-true (refusalOf limit (tableIn s) (line r)) 0 z) in
-      event-holds h a (r .event) refl (λ n. spoken n a) (fit (accept (line r) (tableIn s)) u)
+      event-holds h a (r .event) refl (λ n. spoken n a) (all-fit (length s) (accept (line r) (tableIn s)) u)
 
   read-holds : (a : Answer Said) → undamaged limit (bookRead limit (tableIn s) a .table) ≡ true
       → Holds (readBytes a s) (bookRead limit (tableIn s) a .table)

@@ -25,6 +25,7 @@ use Rattle.slot.proofs.Lookups.{at-found, amend-at}
 use Rattle.slot.proofs.Said.{length-slot}
 use Rattle.table.specs.Changes.{changed, appended}
 use Rattle.table.specs.Tables.{limitOf, countIn, spareIn, tableIn, tailZero}
+use Rattle.table.proofs.Fitting.{AllFit}
 use Rattle.table.proofs.Limits.{limit-small, slot-inside, slots-inside}
 
 abbrev pub TailZero : List ℕ → ℕ → Type 0
@@ -38,9 +39,6 @@ pub record Holds (s : List ℕ) (t : Table) : Type 0 where
   pub spare : all isZero (spareIn s) ≡ true
   pub tails : (k : ℕ) → k < countIn s → TailZero s k
   pub says : tableIn s ≡ t
-
-abbrev pub AllFit : List Order → Type 0
-AllFit os = (none : Order) (i : ℕ) → i < length os → Fits (getD os i none)
 
 -- ---- tails
 

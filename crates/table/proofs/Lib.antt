@@ -1,5 +1,7 @@
 -- What a table's length says of its limit and of its slots' places
 pub mod Limits
+-- Undamaged orders have room in their slots
+pub mod Fitting
 -- Stored bytes follow the table through each of its changes
 pub mod Holding
 -- Bytes are sound exactly where they hold an undamaged table
