@@ -21,8 +21,8 @@ use Rattle.feed.specs.Steps.{holdLength, keptOf}
 too-long : (p : List ℕ) → 140 < length p → read p ≡ refused 1 0
 too-long p h = no-line-read p (λ e. omega (arith, ap length e)) (rw (ne-eqb (length p) 140 (λ e. omega arith)))
 
-read-kept : (p : List ℕ) → read (keptOf p) ≡ read p
-read-kept p = go (leb (length p) holdLength) refl
+read-verbatim : (p : List ℕ) → read (keptOf p) ≡ read p
+read-verbatim p = go (leb (length p) holdLength) refl
   where
     go : (t : Bool) → leb (length p) holdLength ≡ t → read (keptOf p) ≡ read p
     go true e = ap read (take-all holdLength p (leb-true (length p) holdLength e))
@@ -35,8 +35,8 @@ take-front zero p q = refl
 take-front (suc n) [] q = refl
 take-front (suc n) (b ∷ p) q = ap (λ l. b ∷ l) (take-front n p q)
 
-read-kept-then : (p q : List ℕ) → read (keptOf p ++ q) ≡ read (p ++ q)
-read-kept-then p q = sym (read-kept (keptOf p ++ q)) ∙ ap read (take-front holdLength p q) ∙ read-kept (p ++ q)
+read-verbatim-then : (p q : List ℕ) → read (keptOf p ++ q) ≡ read (p ++ q)
+read-verbatim-then p q = sym (read-verbatim (keptOf p ++ q)) ∙ ap read (take-front holdLength p q) ∙ read-verbatim (p ++ q)
 
 -- ---- booking
 
@@ -50,16 +50,16 @@ module _ (s p q : List ℕ) (e : read p ≡ read q) where
   same-bytes = ap (λ (a : Answer Said). cond (sound s) (readBytes a s) s) e
 
 module _ (s p : List ℕ) where
-  pub kept-answer : bookAnswer s (keptOf p) ≡ bookAnswer s p
-  kept-answer = same-answer s (keptOf p) p (read-kept p)
+  pub verbatim-answer : bookAnswer s (keptOf p) ≡ bookAnswer s p
+  verbatim-answer = same-answer s (keptOf p) p (read-verbatim p)
 
   pub kept-bytes : bookBytes s (keptOf p) ≡ bookBytes s p
-  kept-bytes = same-bytes s (keptOf p) p (read-kept p)
+  kept-bytes = same-bytes s (keptOf p) p (read-verbatim p)
 
 -- also where more of the piece comes behind what is held
 module _ (s p q : List ℕ) where
   pub then-answer : bookAnswer s (keptOf p ++ q) ≡ bookAnswer s (p ++ q)
-  then-answer = same-answer s (keptOf p ++ q) (p ++ q) (read-kept-then p q)
+  then-answer = same-answer s (keptOf p ++ q) (p ++ q) (read-verbatim-then p q)
 
   pub then-bytes : bookBytes s (keptOf p ++ q) ≡ bookBytes s (p ++ q)
-  then-bytes = same-bytes s (keptOf p ++ q) (p ++ q) (read-kept-then p q)
+  then-bytes = same-bytes s (keptOf p ++ q) (p ++ q) (read-verbatim-then p q)

@@ -36,8 +36,8 @@ module _ (hold part : List ℕ) (held n : ℕ) (long : length hold ≡ holdLengt
       ap (take (held + n)) (sets-eq (take n part) hold held fits)
       ∙ take-at (take held hold ++ take n part) _ (held + n) both
 
-  kept-then : keptOf (heldIn hold held ++ part) ≡ heldIn hold held ++ take (holdLength - held) part
-  kept-then =
+  verbatim-then : keptOf (heldIn hold held ++ part) ≡ heldIn hold held ++ take (holdLength - held) part
+  verbatim-then =
       let front : length (take held hold) ≡ held = length-take-le held hold (omega arith) in
       let all : holdLength ≡ length (take held hold) + (holdLength - held) = omega arith in
       ap (λ k. take k (take held hold ++ part)) all ∙ take-append-add (take held hold) part (holdLength - held)
@@ -45,6 +45,6 @@ module _ (hold part : List ℕ) (held n : ℕ) (long : length hold ≡ holdLengt
   pub keeps : (after : List ℕ) → after ≡ sets hold held (take (n - 0) part)
       → (heldIn after (held + n) ≡ keptOf (heldIn hold held ++ part)) × ((held + n ≤ holdLength) × (length after ≡ holdLength))
   keeps after e = (
-    rw (e, sub-zero) (held-then ∙ rw (least-take part n (holdLength - held) least) (sym kept-then)),
+    rw (e, sub-zero) (held-then ∙ rw (least-take part n (holdLength - held) least) (sym verbatim-then)),
     (omega (arith, least-most n (length part) (holdLength - held) least), ap length e ∙ length-sets hold held (take (n - 0) part) ∙ long),
   )

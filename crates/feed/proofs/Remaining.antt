@@ -17,7 +17,7 @@ use Rattle.piece.proofs.Cutting.{pieces-cut}
 use Rattle.feed.specs.Printed.{report}
 use Rattle.feed.specs.Steps.{Between, between, holdLength, keptOf, longest, nextLine, Step, step, usedOf, textIn, keptIn, after, stepOver, stepFrom, finished}
 use Rattle.feed.proofs.Endings.{none-both, none-front, unended, ended, ended-behind}
-use Rattle.feed.proofs.Enough.{kept-answer, kept-bytes, then-answer, then-bytes}
+use Rattle.feed.proofs.Enough.{verbatim-answer, kept-bytes, then-answer, then-bytes}
 
 -- the pieces booked into the bytes of a table, the first numbered l, and then the sheet
 abbrev pub leftFrom : ℕ → List ℕ → List (List ℕ) → List ℕ
@@ -38,14 +38,14 @@ module _ (l : ℕ) (s : List ℕ) where
       → leftFrom l s (p ∷ ps) ≡ leftFrom l s (q ∷ ps)
   first-alike p q ps e f = rw (e, f)
 
-  run-kept : (p : List ℕ) (ps : List (List ℕ)) → leftFrom l s (joinRun p ps) ≡ leftFrom l s (joinRun (keptOf p) ps)
-  run-kept [] [] = refl
-  run-kept (b ∷ p) [] = first-alike (b ∷ p) (keptOf (b ∷ p)) [] (sym (kept-answer s (b ∷ p))) (sym (kept-bytes s (b ∷ p)))
-  run-kept p (q ∷ qs) = first-alike (p ++ q) (keptOf p ++ q) qs (sym (then-answer s p q)) (sym (then-bytes s p q))
+  run-verbatim : (p : List ℕ) (ps : List (List ℕ)) → leftFrom l s (joinRun p ps) ≡ leftFrom l s (joinRun (keptOf p) ps)
+  run-verbatim [] [] = refl
+  run-verbatim (b ∷ p) [] = first-alike (b ∷ p) (keptOf (b ∷ p)) [] (sym (verbatim-answer s (b ∷ p))) (sym (kept-bytes s (b ∷ p)))
+  run-verbatim p (q ∷ qs) = first-alike (p ++ q) (keptOf p ++ q) qs (sym (then-answer s p q)) (sym (then-bytes s p q))
 
   held-kept : (p text : List ℕ) → member 10 p ≡ false → left (between p l s) text ≡ left (between (keptOf p) l s) text
   held-kept p text e =
-      ap (leftFrom l s) (begun p text e) ∙ run-kept p (pieces text)
+      ap (leftFrom l s) (begun p text e) ∙ run-verbatim p (pieces text)
       ∙ sym (ap (leftFrom l s) (begun (keptOf p) text (none-front holdLength p e)))
 
 -- ---- a step

@@ -14,7 +14,7 @@ use Rattle.book.specs.declared.Booking.the-variants.{Booked, Refused}
 use Rattle.row.specs.Writes.{Wrote}
 use Rattle.feed.specs.Printed.{refusalLine, report}
 use Rattle.feed.specs.Steps.{between, heldIn, holdLength, keptOf, lastSaid, lastTable}
-use Rattle.feed.proofs.Enough.{kept-answer, kept-bytes}
+use Rattle.feed.proofs.Enough.{verbatim-answer, kept-bytes}
 
 -- r bytes are written for the piece p, and the table is then `after`
 abbrev pub Says : (line : ℕ) (t p before out : List ℕ) (r : ℕ) (after : List ℕ) → Type 0
@@ -37,8 +37,8 @@ module _ (line : ℕ) (t : List ℕ) {before out : List ℕ} {r : ℕ} {after : 
   part-says hold part held e s = rw e s
 
   -- what is kept of a piece says what the piece says
-  pub kept-says : (kept p : List ℕ) → kept ≡ keptOf p → Says line t kept before out r after → Says line t p before out r after
-  kept-says kept p e s = (rw (← kept-answer t p, ← e) (s .0), s .1 ∙ rw e (kept-bytes t p))
+  pub verbatim-says : (kept p : List ℕ) → kept ≡ keptOf p → Says line t kept before out r after → Says line t p before out r after
+  verbatim-says kept p e s = (rw (← verbatim-answer t p, ← e) (s .0), s .1 ∙ rw e (kept-bytes t p))
 
   pub last-says : (hold : List ℕ) (held : ℕ) → length hold ≡ holdLength → (held ≡ 0 → ⊥) → Says line t (heldIn hold held) before out r after
       → Wrote (lastSaid (between (heldIn hold held) line t)) before out r × (after ≡ lastTable (between (heldIn hold held) line t))

@@ -10,7 +10,7 @@ use lib.Seq.{take-all}
 use borrow.Author.Tests.{le-leb, lt-leb, ne-eqb}
 use Rattle.run.specs.Runs.{all, member}
 use Rattle.field.specs.Byte.{isOf}
-use Rattle.field.specs.Kept.{isText, isCode, kept}
+use Rattle.field.specs.Verbatim.{isText, isCode, lawfulIf}
 use Rattle.field.specs.Number.{within, spaced, digitsAfter, dollars, price}
 use Rattle.field.specs.Skipped.{Skipped}
 use Rattle.run.proofs.Scan.{at-next}
@@ -29,38 +29,38 @@ above-most least most v n e h = rw (e, lt-leb v most h, and-false)
 pub in-bounds : (least most v : ℕ) (n : Number) → n ≡ Value v → least ≤ v → v ≤ most → Value v ≡ within least most n
 in-bounds least most v n e h k = rw (e, le-leb least v h, le-leb v most k)
 
-pub no-text : (s : List ℕ) → length s ≡ 0 → Unlawful ≡ kept (isText s)
+pub no-text : (s : List ℕ) → length s ≡ 0 → Unlawful ≡ lawfulIf (isText s)
 no-text [] h = refl
 no-text (b ∷ s) h = let z : ⊥ = omega arith in absurd z
 
-pub led-by-space : (s : List ℕ) → getD s 0 0 ≡ 32 → Unlawful ≡ kept (isText s)
+pub led-by-space : (s : List ℕ) → getD s 0 0 ≡ 32 → Unlawful ≡ lawfulIf (isText s)
 led-by-space [] h = refl
 led-by-space (b ∷ s) h = rw h
 
-pub led-by-text : (s : List ℕ) (b : Bool) → b ≡ all (isOf Printable) s → (length s ≡ 0 → ⊥) → (getD s 0 0 ≡ 32 → ⊥) → kept b ≡ kept (isText s)
+pub led-by-text : (s : List ℕ) (b : Bool) → b ≡ all (isOf Printable) s → (length s ≡ 0 → ⊥) → (getD s 0 0 ≡ 32 → ⊥) → lawfulIf b ≡ lawfulIf (isText s)
 led-by-text [] b e h k = absurd (h refl)
 led-by-text (a ∷ s) b e h k = rw (e, ne-eqb a 32 k)
 
-pub first-kind : (a b : Bool) → a ≡ true → Lawful ≡ kept (a || b)
+pub first-kind : (a b : Bool) → a ≡ true → Lawful ≡ lawfulIf (a || b)
 first-kind a b e = rw e
 
-pub other-kind : (a b : Bool) → a ≡ false → kept b ≡ kept (a || b)
+pub other-kind : (a b : Bool) → a ≡ false → lawfulIf b ≡ lawfulIf (a || b)
 other-kind a b e = rw e
 
-pub lawful-true : (a : Bool) → kept a ≡ Lawful → a ≡ true
+pub lawful-true : (a : Bool) → lawfulIf a ≡ Lawful → a ≡ true
 lawful-true true e = refl
 lawful-true false e = let z : _≡_ {A = ℕ} 0 1 = cc in absurd (omega arith)
 
-pub unlawful-false : (a : Bool) → kept a ≡ Unlawful → a ≡ false
+pub unlawful-false : (a : Bool) → lawfulIf a ≡ Unlawful → a ≡ false
 unlawful-false true e = let z : _≡_ {A = ℕ} 0 1 = cc in absurd (omega arith)
 unlawful-false false e = refl
 
-pub no-code : (codes s : List ℕ) → (length s ≡ 1 → ⊥) → Unlawful ≡ kept (isCode codes s)
+pub no-code : (codes s : List ℕ) → (length s ≡ 1 → ⊥) → Unlawful ≡ lawfulIf (isCode codes s)
 no-code codes [] h = refl
 no-code codes (b ∷ []) h = absurd (h refl)
 no-code codes (b ∷ a ∷ s) h = refl
 
-pub one-code : (codes s : List ℕ) (b : Bool) → length s ≡ 1 → b ≡ member (getD s 0 0) codes → kept b ≡ kept (isCode codes s)
+pub one-code : (codes s : List ℕ) (b : Bool) → length s ≡ 1 → b ≡ member (getD s 0 0) codes → lawfulIf b ≡ lawfulIf (isCode codes s)
 one-code codes [] b h e = let z : ⊥ = omega arith in absurd z
 one-code codes (a ∷ []) b h e = rw e
 one-code codes (a ∷ d ∷ s) b h e = let z : ⊥ = omega arith in absurd z

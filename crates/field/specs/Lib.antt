@@ -1,7 +1,7 @@
 -- Printable, space, digit, hex
 pub mod Byte
 -- The kinds of field that stay as they stand
-pub mod Kept
+pub mod Verbatim
 -- Fields with a value: how they are read and written
 pub mod Number
 -- What lies behind the spaces on the left

@@ -1,7 +1,7 @@
 // One field of fixed width: its readers and its writers. Nothing here knows where a field stands in a line.
 pub mod digits;
-pub mod kept;
 pub mod put;
+pub mod verbatim;
 
 // What a byte may be.
 pub enum Class {

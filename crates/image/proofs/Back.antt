@@ -94,11 +94,11 @@ module _ (r : Record) (h : LawfulRecord r) where
   image-length = ap length (numbers-are-cells r (take 138 (lineOf r))) ∙ length-cells (cells r) (take 138 (lineOf r)) ∙ front-length
 
   -- field n, which is no number
-  pub kept-field : (n : ℕ) → (leb 1 n && leb n 24) ≡ true
+  pub verbatim-field : (n : ℕ) → (leb 1 n && leb n 24) ≡ true
       → let f = fieldAt (layoutFor r) n in apart (f .at) (f .len) (cells r) ≡ true → leb (f .at + f .len) 138 ≡ true
       → part image (f .at) (f .len) ≡ writes (f .rule) (f .len) (fieldHeld r n)
   unfolding imageOf
-  kept-field n m a g =
+  verbatim-field n m a g =
       let f = fieldAt (layoutFor r) n in
       let b = between 1 24 n m in
       ap (λ b. part b (f .at) (f .len)) (numbers-are-cells r (take 138 (lineOf r)))
@@ -125,10 +125,10 @@ module _ (r : Record) (h : LawfulRecord r) where
   -- ---- field by field
 
   type-back : getD image 8 0 ≡ typeOf (r .event)
-  type-back = one-byte 8 (typeOf (r .event)) (kept-field 2 refl refl refl)
+  type-back = one-byte 8 (typeOf (r .event)) (verbatim-field 2 refl refl refl)
 
   liquidity-back : getD image 15 0 ≡ tradeOf (r .event) .liquidity
-  liquidity-back = one-byte 15 (tradeOf (r .event) .liquidity) (kept-field 6 refl refl refl ∙ sym (liquidity-text (r .event)))
+  liquidity-back = one-byte 15 (tradeOf (r .event) .liquidity) (verbatim-field 6 refl refl refl ∙ sym (liquidity-text (r .event)))
 
   price-small : r .price < 256 ^ 8
   price-small = omega (arith, ltb-true (r .price) (10 ^ 10) (h .fields 22 (omega arith) (omega arith)))
@@ -181,23 +181,23 @@ module _ (r : Record) (h : LawfulRecord r) where
       record {
         timestamp = number-back 0 8 8 (r .timestamp) (omega arith) (number-cell 0 refl) refl (small (256 ^ 8) 0 86399999 (r .timestamp) (h .fields 1 (omega arith) (omega arith)) (omega arith)) i;
         event = event-said i;
-        firm = kept-field 3 refl refl refl i;
-        capacity = one-byte 13 (r .capacity) (kept-field 4 refl refl refl) i;
-        position = one-byte 14 (r .position) (kept-field 5 refl refl refl) i;
-        account = kept-field 7 refl refl refl i;
-        member = kept-field 8 refl refl refl i;
-        clearing = kept-field 9 refl refl refl i;
-        source = kept-field 10 refl refl refl i;
-        token = kept-field 11 refl refl refl i;
-        replaced = kept-field 12 refl refl refl i;
-        reference = kept-field 13 refl refl refl i;
-        side = one-byte 85 (r .side) (kept-field 14 refl refl refl) i;
+        firm = verbatim-field 3 refl refl refl i;
+        capacity = one-byte 13 (r .capacity) (verbatim-field 4 refl refl refl) i;
+        position = one-byte 14 (r .position) (verbatim-field 5 refl refl refl) i;
+        account = verbatim-field 7 refl refl refl i;
+        member = verbatim-field 8 refl refl refl i;
+        clearing = verbatim-field 9 refl refl refl i;
+        source = verbatim-field 10 refl refl refl i;
+        token = verbatim-field 11 refl refl refl i;
+        replaced = verbatim-field 12 refl refl refl i;
+        reference = verbatim-field 13 refl refl refl i;
+        side = one-byte 85 (r .side) (verbatim-field 14 refl refl refl) i;
         contracts = number-back 86 6 6 (r .contracts) (omega arith) (number-cell 1 refl) refl (small (256 ^ 6) 1 999999 (r .contracts) (h .fields 15 (omega arith) (omega arith)) (omega arith)) i;
-        root = kept-field 16 refl refl refl i;
-        month = one-byte 98 (r .month) (kept-field 17 refl refl refl) i;
+        root = verbatim-field 16 refl refl refl i;
+        month = one-byte 98 (r .month) (verbatim-field 17 refl refl refl) i;
         date = number-back 99 2 2 (r .date) (omega arith) (number-cell 2 refl) refl (small (256 ^ 2) 1 31 (r .date) (h .fields 18 (omega arith) (omega arith)) (omega arith)) i;
         year = number-back 101 2 2 (r .year) (omega arith) (number-cell 3 refl) refl (small (256 ^ 2) 0 99 (r .year) (h .fields 19 (omega arith) (omega arith)) (omega arith)) i;
-        denominator = one-byte 103 (r .denominator) (kept-field 20 refl refl refl) i;
+        denominator = one-byte 103 (r .denominator) (verbatim-field 20 refl refl refl) i;
         strike = number-back 104 6 6 (r .strike) (omega arith) (number-cell 4 refl) refl (small (256 ^ 6) (leastStrike (r .denominator)) 999999 (r .strike) (h .fields 21 (omega arith) (omega arith)) (omega arith)) i;
         price = number-back 110 8 10 (r .price) (omega arith) (number-cell 5 refl) refl price-small i;
       }

@@ -22,7 +22,7 @@ use Rattle.layout.specs.declared.Trade.{Trade}
 use Rattle.layout.proofs.Answers.{none-unlawful}
 use Rattle.record.proofs.Events.{liquidity-text}
 use Rattle.image.specs.Images.{imageOf, isBytes, oddId, recordIn, unwritable}
-use Rattle.image.proofs.Back.{image-length, kept-field, number-cell}
+use Rattle.image.proofs.Back.{image-length, verbatim-field, number-cell}
 use Rattle.image.proofs.Odd.{Meant, meant}
 use Rattle.image.proofs.Sooner.{writable}
 
@@ -148,7 +148,7 @@ module _ (b : List ℕ) (bytes : isBytes b) (free : unwritable b ≡ 0) where
   unfolding recordIn
   image-said =
       let r = recordIn b in
-      let field = kept-field r lawful in
+      let field = verbatim-field r lawful in
       let cell = number-cell r lawful in
       let liquid = of-trade (λ t. t .liquidity) (meanings .of-liquidity) in
       same-fields 1 0 (layoutFor r) (imageOf r) b refl (omega (arith, image-length r lawful)) (omega (arith, whole))

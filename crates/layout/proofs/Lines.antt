@@ -14,7 +14,7 @@ use Rattle.field.specs.Byte.{isOf}
 use Rattle.field.specs.declared.Class.the-variants.{Printable}
 use Rattle.message.specs.Exact.{LawfulValues, Exact}
 use Rattle.message.specs.Fields.{Field, placed, fitting, say, readFields, writeFields}
-use Rattle.message.specs.Rule.{Rule, code, kept, text, blank, Value, got, reads, fits}
+use Rattle.message.specs.Rule.{Rule, code, verbatim, text, blank, Value, got, reads, fits}
 use Rattle.message.specs.Values.{runOf, byteAt}
 use Rattle.layout.specs.Demand2.{LawfulLine, LawfulRecord}
 use Rattle.layout.specs.Layout.{layout, types, liquidities, denominators, isTrade, isReplace, idNumber}
@@ -38,9 +38,9 @@ placed-layout t d = refl
 
 fitting-layout : (t d : ℕ) → fitting (layout t d) ≡ true
 fitting-layout t d = rw (
-  fits-either (isTrade t) (code liquidities) (kept blank) 1 refl refl,
-  fits-either (isReplace t) (kept text) (kept blank) 20 refl refl,
-  fits-either (isTrade t) idNumber (kept blank) 9 refl refl,
+  fits-either (isTrade t) (code liquidities) (verbatim blank) 1 refl refl,
+  fits-either (isReplace t) (verbatim text) (verbatim blank) 20 refl refl,
+  fits-either (isTrade t) idNumber (verbatim blank) 9 refl refl,
 )
 
 exact-layout : (t d : ℕ) → Exact (layout t d)

@@ -6,18 +6,18 @@ use Rattle.field.specs.declared.Bytes.{Bytes}
 use Rattle.field.specs.declared.Bytes.the-variants.{Lawful, Unlawful}
 use Rattle.field.specs.declared.Number.{Number}
 use Rattle.field.specs.declared.Number.the-variants.{Value as Number·Value, Bad}
-use Rattle.message.specs.Rule.{Rule, kept, blank, Value, num, run, Got, got, broken, reads}
+use Rattle.message.specs.Rule.{Rule, verbatim, blank, Value, num, run, Got, got, broken, reads}
 use Rattle.message.specs.Values.{numOf}
 use Rattle.layout.specs.Layout.{idNumber}
 
 -- a reader's answer for a rule that keeps bytes
-abbrev pub keptGot : Got → Bytes
-keptGot (got v) = Lawful
-keptGot broken = Unlawful
+abbrev pub bytesGot : Got → Bytes
+bytesGot (got v) = Lawful
+bytesGot broken = Unlawful
 
 -- a field that stands on some types only, and is blank on the others
-abbrev pub keptOn : Bool → Rule → List ℕ → Bytes
-keptOn on rule b = keptGot (reads (cond on rule (kept blank)) b)
+abbrev pub bytesOn : Bool → Rule → List ℕ → Bytes
+bytesOn on rule b = bytesGot (reads (cond on rule (verbatim blank)) b)
 
 -- a reader's answer for an id: 0 stands for a missing one
 abbrev pub idGot : Got → Number
@@ -25,7 +25,7 @@ idGot (got v) = Number·Value (numOf v)
 idGot broken = Bad
 
 abbrev pub idOn : Bool → List ℕ → Number
-idOn on b = idGot (reads (cond on idNumber (kept blank)) b)
+idOn on b = idGot (reads (cond on idNumber (verbatim blank)) b)
 
 -- what the field of an id says
 abbrev pub idValue : Bool → ℕ → List ℕ → Value

@@ -4,7 +4,7 @@ use mathlib.Core.Bool.{Bool, cond, _||_}
 use mathlib.Core.List.{List, [], _∷_}
 use lib.Dec.{eqb}
 use Rattle.message.specs.Fields.{Field, field, fieldNo}
-use Rattle.message.specs.Rule.{Rule, number, digits, price, code, kept, text, textOrBlank, blank, digitsOrBlank, hex, Value, lawful}
+use Rattle.message.specs.Rule.{Rule, number, digits, price, code, verbatim, text, textOrBlank, blank, digitsOrBlank, hex, Value, lawful}
 
 -- A E X C U R
 abbrev pub types : List ℕ
@@ -63,27 +63,27 @@ abbrev pub idNumber : Rule
 idNumber = number 0 999999999
 
 abbrev pub tradeId : ℕ → Rule
-tradeId t = onTrade t idNumber (kept blank)
+tradeId t = onTrade t idNumber (verbatim blank)
 
 -- 01, The line: the table, for a type t and a denominator d
 abbrev pub layout : ℕ → ℕ → List Field
 layout t d =
     field 1 "Timestamp" 0 8 timestamp
     ∷ field 2 "Type" 8 1 (code types)
-    ∷ field 3 "Firm" 9 4 (kept text)
+    ∷ field 3 "Firm" 9 4 (verbatim text)
     ∷ field 4 "Capacity" 13 1 (code capacities)
     ∷ field 5 "Open/Close" 14 1 (code positions)
-    ∷ field 6 "Liquidity" 15 1 (onTrade t (code liquidities) (kept blank))
-    ∷ field 7 "Clearing Account" 16 4 (kept textOrBlank)
-    ∷ field 8 "Clearing Member" 20 5 (kept digitsOrBlank)
-    ∷ field 9 "Clearing Firm" 25 5 (kept digitsOrBlank)
-    ∷ field 10 "Source" 30 6 (kept text)
-    ∷ field 11 "Token" 36 20 (kept text)
-    ∷ field 12 "Replaced Token" 56 20 (onReplace t (kept text) (kept blank))
-    ∷ field 13 "Reference" 76 9 (kept hex)
+    ∷ field 6 "Liquidity" 15 1 (onTrade t (code liquidities) (verbatim blank))
+    ∷ field 7 "Clearing Account" 16 4 (verbatim textOrBlank)
+    ∷ field 8 "Clearing Member" 20 5 (verbatim digitsOrBlank)
+    ∷ field 9 "Clearing Firm" 25 5 (verbatim digitsOrBlank)
+    ∷ field 10 "Source" 30 6 (verbatim text)
+    ∷ field 11 "Token" 36 20 (verbatim text)
+    ∷ field 12 "Replaced Token" 56 20 (onReplace t (verbatim text) (verbatim blank))
+    ∷ field 13 "Reference" 76 9 (verbatim hex)
     ∷ field 14 "Side" 85 1 (code sides)
     ∷ field 15 "Contracts" 86 6 (number 1 999999)
-    ∷ field 16 "Root" 92 6 (kept text)
+    ∷ field 16 "Root" 92 6 (verbatim text)
     ∷ field 17 "Month" 98 1 (code months)
     ∷ field 18 "Date" 99 2 (digits 1 31)
     ∷ field 19 "Year" 101 2 (digits 0 99)

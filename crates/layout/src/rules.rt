@@ -4,14 +4,14 @@ ghost use mathlib.Core.Bool.{_&&_};
 ghost use mathlib.Core.Path.{_≡_};
 ghost use lib.Dec.{eqb, leb};
 ghost use lib.ListN.{length};
-ghost use Rattle.message.specs.Rule.{code, text, kept as Rule·kept};
+ghost use Rattle.message.specs.Rule.{code, text, verbatim as Rule·verbatim};
 ghost use Rattle.layout.specs.Layout.{isTrade, liquidities, leastStrike};
 ghost use Rattle.layout.specs.Strikes.{lawfulStrike};
-ghost use Rattle.layout.specs.ByType.{keptOn, idOn};
+ghost use Rattle.layout.specs.ByType.{bytesOn, idOn};
 use field::Bytes;
 use field::Number;
 use field::digits;
-use field::kept;
+use field::verbatim;
 
 // A line in bytes, CR LF included, and its fields alone.
 pub const LINE: usize = 140;
@@ -72,21 +72,21 @@ pub fn is_replace(t: u8) -> bool
 }
 
 pub fn liquidity(s: &[u8], trade: bool) -> Bytes
-    ensures { λ r. ⌜ r ≡ keptOn trade (code liquidities) (now (s .entry)) ⌝ }
+    ensures { λ r. ⌜ r ≡ bytesOn trade (code liquidities) (now (s .entry)) ⌝ }
 {
     if trade {
-        return kept::code(s, &LIQUIDITIES);
+        return verbatim::code(s, &LIQUIDITIES);
     }
-    kept::blank(s)
+    verbatim::blank(s)
 }
 
 pub fn replaced(s: &[u8], replace: bool) -> Bytes
-    ensures { λ r. ⌜ r ≡ keptOn replace (Rule·kept text) (now (s .entry)) ⌝ }
+    ensures { λ r. ⌜ r ≡ bytesOn replace (Rule·verbatim text) (now (s .entry)) ⌝ }
 {
     if replace {
-        return kept::text(s);
+        return verbatim::text(s);
     }
-    kept::blank(s)
+    verbatim::blank(s)
 }
 
 pub fn id(s: &[u8], trade: bool) -> Number
@@ -96,7 +96,7 @@ pub fn id(s: &[u8], trade: bool) -> Number
     if trade {
         return digits::number(s, 0, MOST_ID);
     }
-    let Bytes::Lawful = kept::blank(s) else {
+    let Bytes::Lawful = verbatim::blank(s) else {
         return Number::Bad;
     };
     Number::Value(0)

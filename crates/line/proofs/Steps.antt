@@ -7,8 +7,8 @@ use native.Mathlib.Omega.{arith}
 use lib.ListN.{getD, take, drop}
 use lib.Seq.{take-suc, drop-cons}
 use Rattle.run.specs.Runs.{part}
-use Rattle.field.specs.Kept.{isCode}
-use Rattle.field.specs.Kept.{kept as keptAnswer}
+use Rattle.field.specs.Verbatim.{isCode}
+use Rattle.field.specs.Verbatim.{lawfulIf}
 use Rattle.field.specs.declared.Bytes.{Bytes}
 use Rattle.field.specs.declared.Bytes.the-variants.{Lawful, Unlawful}
 use Rattle.field.specs.declared.Number.{Number}
@@ -16,7 +16,7 @@ use Rattle.field.specs.declared.Number.the-variants.{Value as Number·Value, Ba
 use Rattle.refusal.specs.declared.Refusal.{Refusal}
 use Rattle.refusal.specs.declared.Refusal.the-variants.{Field as Refusal·Field}
 use Rattle.message.specs.Fields.{Field, noField, breaks, readFields, onGot}
-use Rattle.message.specs.Rule.{code, kept, Kind, isKind, Value, num, run, Got, got, broken, reads, gotNumber, gotRun}
+use Rattle.message.specs.Rule.{code, verbatim, Kind, isKind, Value, num, run, Got, got, broken, reads, gotNumber, gotRun}
 use Rattle.layout.specs.Line.{layoutOf}
 use Rattle.line.specs.Groups.{Says, valuesOf, readingBy, readingOf, readingFrom, refusedReading}
 use Rattle.line.specs.declared.Group.{Group}
@@ -56,26 +56,26 @@ stops k n s x h e g =
     ∙ rw (drop-cons (layoutOf s) k noField h)
     (ap readingOf (sym (stop (fieldOf s k) (drop (suc k) (layoutOf s)) (take k (valuesOf n s)) s e)))
 
-run-good : (a : Bool) (b : List ℕ) → keptAnswer a ≡ Lawful → gotRun a b ≡ got (run b)
+run-good : (a : Bool) (b : List ℕ) → lawfulIf a ≡ Lawful → gotRun a b ≡ got (run b)
 run-good true b e = refl
 run-good false b e = let z : _≡_ {A = ℕ} 0 1 = cc in absurd (omega arith)
 
-run-bad : (a : Bool) (b : List ℕ) → keptAnswer a ≡ Unlawful → gotRun a b ≡ broken
+run-bad : (a : Bool) (b : List ℕ) → lawfulIf a ≡ Unlawful → gotRun a b ≡ broken
 run-bad true b e = let z : _≡_ {A = ℕ} 0 1 = cc in absurd (omega arith)
 run-bad false b e = refl
 
 -- ---- what the readers' answers say of a rule
 
-pub kind-good : (k : Kind) (b : List ℕ) (x : Bytes) → x ≡ keptAnswer (isKind k b) → x ≡ Lawful → reads (kept k) b ≡ got (run b)
+pub kind-good : (k : Kind) (b : List ℕ) (x : Bytes) → x ≡ lawfulIf (isKind k b) → x ≡ Lawful → reads (verbatim k) b ≡ got (run b)
 kind-good k b x e l = run-good (isKind k b) b (sym e ∙ l)
 
-pub kind-bad : (k : Kind) (b : List ℕ) (x : Bytes) → x ≡ keptAnswer (isKind k b) → x ≡ Unlawful → reads (kept k) b ≡ broken
+pub kind-bad : (k : Kind) (b : List ℕ) (x : Bytes) → x ≡ lawfulIf (isKind k b) → x ≡ Unlawful → reads (verbatim k) b ≡ broken
 kind-bad k b x e l = run-bad (isKind k b) b (sym e ∙ l)
 
-pub code-good : (codes b : List ℕ) (x : Bytes) → x ≡ keptAnswer (isCode codes b) → x ≡ Lawful → reads (code codes) b ≡ got (run b)
+pub code-good : (codes b : List ℕ) (x : Bytes) → x ≡ lawfulIf (isCode codes b) → x ≡ Lawful → reads (code codes) b ≡ got (run b)
 code-good codes b x e l = run-good (isCode codes b) b (sym e ∙ l)
 
-pub code-bad : (codes b : List ℕ) (x : Bytes) → x ≡ keptAnswer (isCode codes b) → x ≡ Unlawful → reads (code codes) b ≡ broken
+pub code-bad : (codes b : List ℕ) (x : Bytes) → x ≡ lawfulIf (isCode codes b) → x ≡ Unlawful → reads (code codes) b ≡ broken
 code-bad codes b x e l = run-bad (isCode codes b) b (sym e ∙ l)
 
 pub value-good : (n x : Number) (v : ℕ) → x ≡ n → x ≡ Number·Value v → gotNumber n ≡ got (num v)

@@ -12,7 +12,7 @@ use field::Bytes;
 use field::Class;
 use field::Number;
 use field::digits;
-use field::kept;
+use field::verbatim;
 use layout::Event;
 use layout::Numbers;
 use layout::Record;
@@ -34,7 +34,7 @@ pub fn read(piece: &[u8]) -> Reading
     if !is_crlf(&piece[layout::FIELDS..]) {
         return refused(Refusal::NoLine);
     }
-    if !kept::all_of(&piece[0..layout::FIELDS], Class::Printable) {
+    if !verbatim::all_of(&piece[0..layout::FIELDS], Class::Printable) {
         return refused(Refusal::BadByte);
     }
     by_fields(piece)
@@ -162,16 +162,16 @@ fn event_fields(s: &[u8]) -> Group
     let Number::Value(timestamp) = digits::number(&s[0..8], 0, layout::LAST_TIMESTAMP) else {
         return Group::Refused(Refusal::Field(1));
     };
-    let Bytes::Lawful = kept::code(&s[8..9], &layout::TYPES) else {
+    let Bytes::Lawful = verbatim::code(&s[8..9], &layout::TYPES) else {
         return Group::Refused(Refusal::Field(2));
     };
-    let Bytes::Lawful = kept::text(&s[9..13]) else {
+    let Bytes::Lawful = verbatim::text(&s[9..13]) else {
         return Group::Refused(Refusal::Field(3));
     };
-    let Bytes::Lawful = kept::code(&s[13..14], &layout::CAPACITIES) else {
+    let Bytes::Lawful = verbatim::code(&s[13..14], &layout::CAPACITIES) else {
         return Group::Refused(Refusal::Field(4));
     };
-    let Bytes::Lawful = kept::code(&s[14..15], &layout::POSITIONS) else {
+    let Bytes::Lawful = verbatim::code(&s[14..15], &layout::POSITIONS) else {
         return Group::Refused(Refusal::Field(5));
     };
     let Bytes::Lawful = layout::liquidity(&s[15..16], layout::is_trade(s[8])) else {
@@ -187,19 +187,19 @@ fn account_fields(s: &[u8]) -> Group
     requires { ⌜ length (now s) ≡ 140 ⌝ }
     ensures { λ r. ⌜ Says 6 12 withNone (now (s .entry)) r ⌝ }
 {
-    let Bytes::Lawful = kept::text_or_blank(&s[16..20]) else {
+    let Bytes::Lawful = verbatim::text_or_blank(&s[16..20]) else {
         return Group::Refused(Refusal::Field(7));
     };
-    let Bytes::Lawful = kept::digits_or_blank(&s[20..25]) else {
+    let Bytes::Lawful = verbatim::digits_or_blank(&s[20..25]) else {
         return Group::Refused(Refusal::Field(8));
     };
-    let Bytes::Lawful = kept::digits_or_blank(&s[25..30]) else {
+    let Bytes::Lawful = verbatim::digits_or_blank(&s[25..30]) else {
         return Group::Refused(Refusal::Field(9));
     };
-    let Bytes::Lawful = kept::text(&s[30..36]) else {
+    let Bytes::Lawful = verbatim::text(&s[30..36]) else {
         return Group::Refused(Refusal::Field(10));
     };
-    let Bytes::Lawful = kept::text(&s[36..56]) else {
+    let Bytes::Lawful = verbatim::text(&s[36..56]) else {
         return Group::Refused(Refusal::Field(11));
     };
     let Bytes::Lawful = layout::replaced(&s[56..76], layout::is_replace(s[8])) else {
@@ -213,10 +213,10 @@ fn order_fields(s: &[u8]) -> Group
     requires { ⌜ length (now s) ≡ 140 ⌝ }
     ensures { λ r. ⌜ Says 12 17 withContracts (now (s .entry)) r ⌝ }
 {
-    let Bytes::Lawful = kept::hex(&s[76..85]) else {
+    let Bytes::Lawful = verbatim::hex(&s[76..85]) else {
         return Group::Refused(Refusal::Field(13));
     };
-    let Bytes::Lawful = kept::code(&s[85..86], &layout::SIDES) else {
+    let Bytes::Lawful = verbatim::code(&s[85..86], &layout::SIDES) else {
         return Group::Refused(Refusal::Field(14));
     };
     let Number::Value(contracts) = digits::number(
@@ -226,10 +226,10 @@ fn order_fields(s: &[u8]) -> Group
     ) else {
         return Group::Refused(Refusal::Field(15));
     };
-    let Bytes::Lawful = kept::text(&s[92..98]) else {
+    let Bytes::Lawful = verbatim::text(&s[92..98]) else {
         return Group::Refused(Refusal::Field(16));
     };
-    let Bytes::Lawful = kept::code(&s[98..99], &layout::MONTHS) else {
+    let Bytes::Lawful = verbatim::code(&s[98..99], &layout::MONTHS) else {
         return Group::Refused(Refusal::Field(17));
     };
     let mut n = no_numbers();
@@ -249,7 +249,7 @@ fn price_fields(s: &[u8]) -> Group
     let Number::Value(year) = digits::exactly(&s[101..103], 0, layout::LAST_YEAR) else {
         return Group::Refused(Refusal::Field(19));
     };
-    let Bytes::Lawful = kept::code(&s[103..104], &layout::DENOMINATORS) else {
+    let Bytes::Lawful = verbatim::code(&s[103..104], &layout::DENOMINATORS) else {
         return Group::Refused(Refusal::Field(20));
     };
     let Number::Value(strike) = digits::exactly(

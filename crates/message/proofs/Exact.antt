@@ -13,7 +13,7 @@ use Rattle.message.specs.Exact.{LawfulValues, Exact}
 use Rattle.message.specs.Fields.{Field, noField, width, placed, fitting, gotAt, keepsAt, Fields, breaks, say, readFields, valueAt, holdsAt, firstUnlawful, writeFields}
 use Rattle.message.specs.First.{Every, First}
 use Rattle.message.specs.Rule.{Value, num, got, isGot, lawful}
-use Rattle.message.proofs.Fields.{tiles, tiles-from, tile, readsAt, told, told-at, firstBroken, read-fields, kept-got}
+use Rattle.message.proofs.Fields.{tiles, tiles-from, tile, readsAt, told, told-at, firstBroken, read-fields, got-back}
 use Rattle.message.proofs.Fields.{LawfulFrom, lawful-count, lawful-first, first-lawful, told-lawful, lawful-width, lawful-printable, lawful-told, lawful-stands}
 use Rattle.message.proofs.First.{firstOf, one-first, not-every, Checked, passed, failed, checked, first-every, every-first, first-first}
 
@@ -89,7 +89,7 @@ module _ (fields : List Field) (p : placed 1 0 fields ≡ true) (q : fitting fie
   said : (s : List ℕ) (vs : List Value) → readFields fields [] s ≡ say vs → (n : ℕ) → 1 ≤ n → n ≤ count → gotAt fields s n ≡ got (valueAt vs n)
   said s vs e n a b =
       let h = read-says s e in
-      kept-got (gotAt fields s n) (h .0 n a b) ∙ ap got (sym (told-at fields s (n - 1) (omega arith)) ∙ ap (λ us. valueAt us n) (h .1))
+      got-back (gotAt fields s n) (h .0 n a b) ∙ ap got (sym (told-at fields s (n - 1) (omega arith)) ∙ ap (λ us. valueAt us n) (h .1))
 
   -- ---- lawful values
 

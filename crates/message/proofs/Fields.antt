@@ -116,16 +116,16 @@ first-lawful (f ∷ fs) (v ∷ vs) n at p t l e =
     let h = none-failed (lawful (f .rule) (f .len) v) (firstUnlawful fs vs) (f .no) (omega arith) e in
     more (c .placed) (c .room) (h .0) (first-lawful fs vs (n + 1) (at + f .len) (omega arith) (c .next) (omega arith) (h .1))
 
-pub kept-got : (g : Got) → isGot g ≡ true → g ≡ got (valueOf g)
-kept-got (got v) e = refl
-kept-got broken e = absurd (false≢true e)
+pub got-back : (g : Got) → isGot g ≡ true → g ≡ got (valueOf g)
+got-back (got v) e = refl
+got-back broken e = absurd (false≢true e)
 
 -- the value that a field says is lawful there, and writes to the row's own bytes
 field-lawful : (s : List ℕ) (f : Field) → f .at + f .len ≤ length s → isGot (readsAt s f) ≡ true
     → let v = valueOf (readsAt s f) in (lawful (f .rule) (f .len) v ≡ true) × (writes (f .rule) (f .len) v ≡ part s (f .at) (f .len))
 field-lawful s f h e =
     let l : length (part s (f .at) (f .len)) ≡ f .len = length-take-le (f .len) (drop (f .at) s) (rw length-drop (omega arith)) in
-    rw l at (reads-writes (f .rule) (part s (f .at) (f .len)) (valueOf (readsAt s f)) (kept-got (readsAt s f) e))
+    rw l at (reads-writes (f .rule) (part s (f .at) (f .len)) (valueOf (readsAt s f)) (got-back (readsAt s f) e))
 
 -- what the fields say of a piece that breaks none of their rules is lawful, and writes to its bytes
 pub told-lawful : (fields : List Field) (s : List ℕ) (n at : ℕ) → 0 < n → tiles n at fields ≡ true

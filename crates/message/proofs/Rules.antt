@@ -10,7 +10,7 @@ use lib.Dec.{leb, ltb, eqb}
 use lib.ListN.{length}
 use Rattle.run.specs.Runs.{all, member}
 use Rattle.field.specs.Byte.{isOf}
-use Rattle.field.specs.Kept.{isCode, isText, isBlank}
+use Rattle.field.specs.Verbatim.{isCode, isText, isBlank}
 use Rattle.field.specs.Number.{spaced, digitsAfter, within, rest, filled}
 use Rattle.field.specs.Number.{price as readPrice}
 use Rattle.field.specs.declared.Class.{Class}
@@ -21,7 +21,7 @@ use Rattle.run.proofs.Tests.{both, either}
 use Rattle.run.proofs.All.{all-append, all-wider}
 use Rattle.field.proofs.Fill.{between, is-between}
 use Rattle.field.proofs.Laws.{within-value, length-filled, length-price, digits-read, digits-write, spaced-back, spaced-write, price-read, price-write}
-use Rattle.message.specs.Rule.{Kind, text, textOrBlank, blank, digitsOrBlank, hex, isKind, Rule, number, digits, price, code, kept}
+use Rattle.message.specs.Rule.{Kind, text, textOrBlank, blank, digitsOrBlank, hex, isKind, Rule, number, digits, price, code, verbatim}
 use Rattle.message.specs.Rule.{Value, num, run, got, broken, gotNumber, gotRun, reads, lawful, writes, fits}
 
 broken-got : {v : Value} → broken ≡ got v → ⊥
@@ -63,7 +63,7 @@ reads-writes price b v e =
 reads-writes (code codes) b v e =
     let g = got-run (isCode codes b) b v e in
     rw (g .0) (run-lawful (isCode codes b) b (g .1), refl)
-reads-writes (kept kind) b v e =
+reads-writes (verbatim kind) b v e =
     let g = got-run (isKind kind b) b v e in
     rw (g .0) (run-lawful (isKind kind b) b (g .1), refl)
 
@@ -91,8 +91,8 @@ writes-reads (code codes) w (num v) f l = absurd (false≢true l)
 writes-reads (code codes) w (run b) f l =
     let h = both (eqb (length b) w) (isCode codes b) l in
     (rw (h .1), eqb-true (length b) w (h .0))
-writes-reads (kept kind) w (num v) f l = absurd (false≢true l)
-writes-reads (kept kind) w (run b) f l =
+writes-reads (verbatim kind) w (num v) f l = absurd (false≢true l)
+writes-reads (verbatim kind) w (run b) f l =
     let h = both (eqb (length b) w) (isKind kind b) l in
     (rw (h .1), eqb-true (length b) w (h .0))
 
@@ -163,5 +163,5 @@ writes-printable price w (run b) f l = absurd (false≢true l)
 writes-printable (code codes) w (num v) f l = absurd (false≢true l)
 writes-printable (code codes) w (run b) f l =
     code-printable codes b (both (eqb w 1) (all (isOf Printable) codes) f .1) (both (eqb (length b) w) (isCode codes b) l .1)
-writes-printable (kept kind) w (num v) f l = absurd (false≢true l)
-writes-printable (kept kind) w (run b) f l = kind-printable kind b (both (eqb (length b) w) (isKind kind b) l .1)
+writes-printable (verbatim kind) w (num v) f l = absurd (false≢true l)
+writes-printable (verbatim kind) w (run b) f l = kind-printable kind b (both (eqb (length b) w) (isKind kind b) l .1)

@@ -6,9 +6,9 @@ use mathlib.Core.List.{List, [], _∷_}
 use borrow.Author.Tests.{eqb-true}
 use lib.Dec.{eqb}
 use lib.ListN.{length, getD, drop, replicate}
-use Rattle.field.specs.Kept.{isCode, isBlank}
+use Rattle.field.specs.Verbatim.{isCode, isBlank}
 use Rattle.message.specs.Fields.{Field}
-use Rattle.message.specs.Rule.{Kind, text, textOrBlank, blank, digitsOrBlank, hex, isKind, Rule, number, digits, price, code, kept}
+use Rattle.message.specs.Rule.{Kind, text, textOrBlank, blank, digitsOrBlank, hex, isKind, Rule, number, digits, price, code, verbatim}
 use Rattle.message.specs.Rule.{Value, num, run, lawful}
 use Rattle.message.specs.Values.{one, missing, numOf, runOf}
 use Rattle.run.proofs.Tests.{both}
@@ -26,7 +26,7 @@ formed (number least most) w v = num (numOf v)
 formed (digits least most) w v = num (numOf v)
 formed price w v = num (numOf v)
 formed (code codes) w v = one (getD (runOf v) 0 0)
-formed (kept kind) w v = form kind w (runOf v)
+formed (verbatim kind) w v = form kind w (runOf v)
 
 code-form : (codes b : List ℕ) → isCode codes b ≡ true → one (getD b 0 0) ≡ run b
 code-form codes [] e = absurd (false≢true e)
@@ -55,8 +55,8 @@ lawful-formed price w (num v) e = refl
 lawful-formed price w (run b) e = absurd (false≢true e)
 lawful-formed (code codes) w (num v) e = absurd (false≢true e)
 lawful-formed (code codes) w (run b) e = code-form codes b (both (eqb (length b) w) (isCode codes b) e .1)
-lawful-formed (kept kind) w (num v) e = absurd (false≢true e)
-lawful-formed (kept kind) w (run b) e =
+lawful-formed (verbatim kind) w (num v) e = absurd (false≢true e)
+lawful-formed (verbatim kind) w (run b) e =
     let h = both (eqb (length b) w) (isKind kind b) e in
     rw (← eqb-true (length b) w (h .0)) (kind-form kind b (h .1))
 

@@ -6,7 +6,7 @@ use mathlib.Core.List.{List, [], _∷_, _++_}
 use lib.Dec.{eqb}
 use lib.ListN.{getD}
 use Rattle.run.specs.Runs.{part}
-use Rattle.message.specs.Rule.{Rule, kept, blank, Value, num, Got, got, broken, isGot, reads, writes, lawful, fits}
+use Rattle.message.specs.Rule.{Rule, verbatim, blank, Value, num, Got, got, broken, isGot, reads, writes, lawful, fits}
 
 -- 01, The line: the columns No, Field, At, Len and Rule
 pub record Field : Type 0 where
@@ -21,7 +21,7 @@ field n name at len rule = record { no = n; name = name; at = at; len = len; rul
 
 -- where a table has none
 abbrev pub noField : Field
-noField = field 0 "none" 0 0 (kept blank)
+noField = field 0 "none" 0 0 (verbatim blank)
 
 -- field n of a table, counted from 1
 abbrev pub fieldAt : List Field → ℕ → Field

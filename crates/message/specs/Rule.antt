@@ -6,7 +6,7 @@ use lib.Dec.{leb, ltb, eqb}
 use lib.ListN.{length}
 use Rattle.run.specs.Runs.{all}
 use Rattle.field.specs.Byte.{isOf}
-use Rattle.field.specs.Kept.{isText, isTextOrBlank, isBlank, isDigitsOrBlank, isHex, isCode}
+use Rattle.field.specs.Verbatim.{isText, isTextOrBlank, isBlank, isDigitsOrBlank, isHex, isCode}
 use Rattle.field.specs.Number.{filled, priceText}
 use Rattle.field.specs.Number.{number as readNumber, digits as readDigits, price as readPrice}
 use Rattle.field.specs.declared.Class.the-variants.{Printable}
@@ -29,7 +29,7 @@ pub data Rule : Type 0 where
   number digits : (least most : ℕ) → Rule
   price : Rule
   code : (codes : List ℕ) → Rule
-  kept : Kind → Rule
+  verbatim : Kind → Rule
 
 -- what a field says: a number, or its bytes
 pub data Value : Type 0 where
@@ -58,7 +58,7 @@ reads (number least most) b = gotNumber (readNumber least most b)
 reads (digits least most) b = gotNumber (readDigits least most b)
 reads price b = gotNumber (readPrice b)
 reads (code codes) b = gotRun (isCode codes b) b
-reads (kept kind) b = gotRun (isKind kind b) b
+reads (verbatim kind) b = gotRun (isKind kind b) b
 
 -- a value that a field of w bytes can say
 abbrev pub lawful : Rule → ℕ → Value → Bool
@@ -70,8 +70,8 @@ lawful price w (num v) = ltb v (10 ^ w)
 lawful price w (run b) = false
 lawful (code codes) w (num v) = false
 lawful (code codes) w (run b) = eqb (length b) w && isCode codes b
-lawful (kept kind) w (num v) = false
-lawful (kept kind) w (run b) = eqb (length b) w && isKind kind b
+lawful (verbatim kind) w (num v) = false
+lawful (verbatim kind) w (run b) = eqb (length b) w && isKind kind b
 
 -- a number in w bytes
 abbrev pub writesNumber : Rule → ℕ → ℕ → List ℕ
@@ -79,7 +79,7 @@ writesNumber (number least most) w v = filled 32 w v
 writesNumber (digits least most) w v = filled 48 w v
 writesNumber price w v = priceText w v
 writesNumber (code codes) w v = filled 32 w v
-writesNumber (kept kind) w v = filled 32 w v
+writesNumber (verbatim kind) w v = filled 32 w v
 
 -- a value in w bytes
 abbrev pub writes : Rule → ℕ → Value → List ℕ
@@ -92,4 +92,4 @@ fits (number least most) w = ltb 0 w && ltb most (10 ^ w)
 fits (digits least most) w = ltb most (10 ^ w)
 fits price w = leb 5 w
 fits (code codes) w = eqb w 1 && all (isOf Printable) codes
-fits (kept kind) w = true
+fits (verbatim kind) w = true

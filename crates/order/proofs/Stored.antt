@@ -8,8 +8,8 @@ use borrow.Author.Tests.{eq-eqb, ne-eqb}
 use lib.Dec.{leb, eqb, leb·zero}
 use lib.ListN.{length}
 use Rattle.run.specs.Runs.{member}
-use Rattle.field.specs.Kept.{isText}
-use Rattle.message.specs.Rule.{kept, text, run, lawful}
+use Rattle.field.specs.Verbatim.{isText}
+use Rattle.message.specs.Rule.{verbatim, text, run, lawful}
 use Rattle.layout.specs.Layout.{sides, months, denominators}
 use Rattle.layout.specs.Strikes.{lawfulStrike}
 use Rattle.order.specs.declared.Figures.{Figures}
@@ -19,10 +19,10 @@ use Rattle.run.proofs.Tests.{same-test}
 use Rattle.layout.proofs.ByType.{price-most}
 use Rattle.order.specs.Stored.{lawfulKey, lawfulSeries, soundFigures, soundOrder}
 
-pub text-lawful : (w : ℕ) (b : List ℕ) (r : Bool) → length b ≡ w → r ≡ isText b → r ≡ lawful (kept text) w (run b)
+pub text-lawful : (w : ℕ) (b : List ℕ) (r : Bool) → length b ≡ w → r ≡ isText b → r ≡ lawful (verbatim text) w (run b)
 text-lawful w b r h e = rw (eq-eqb (length b) w h) e
 
-pub series-lawful : (s : Series) (a b c d e f : Bool) → a ≡ lawful (kept text) 6 (run (s .root)) → b ≡ member (s .month) months
+pub series-lawful : (s : Series) (a b c d e f : Bool) → a ≡ lawful (verbatim text) 6 (run (s .root)) → b ≡ member (s .month) months
     → c ≡ (leb 1 (s .date) && leb (s .date) 31) → d ≡ (leb 0 (s .year) && leb (s .year) 99) → e ≡ member (s .denominator) denominators
     → f ≡ lawfulStrike (s .denominator) (s .strike) → (a && b && c && d && e && f) ≡ lawfulSeries s
 series-lawful s a b c d e f p q r t u v = rw (p, q, r, t, u, v)

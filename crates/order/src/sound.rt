@@ -2,19 +2,19 @@
 ghost use Prim.Native.Nat.{_+_};
 ghost use mathlib.Core.Path.{_≡_};
 ghost use lib.Dec.{eqb};
-ghost use Rattle.field.specs.Kept.{isText};
+ghost use Rattle.field.specs.Verbatim.{isText};
 ghost use Rattle.order.specs.Stored.{lawfulKey, lawfulSeries, soundFigures, soundOrder};
 use crate::Figures;
 use crate::Key;
 use crate::Order;
 use crate::Series;
 use field::Bytes;
-use field::kept;
+use field::verbatim;
 
 fn is_text(s: &[u8]) -> bool
     ensures { λ r. ⌜ r ≡ isText (now (s .entry)) ⌝ }
 {
-    let Bytes::Lawful = kept::text(s) else {
+    let Bytes::Lawful = verbatim::text(s) else {
         return false;
     };
     true

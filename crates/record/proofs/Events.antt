@@ -4,7 +4,7 @@ use mathlib.Core.Bool.{true, _&&_}
 use mathlib.Core.List.{[], _∷_}
 use lib.Dec.{leb}
 use Rattle.run.specs.Runs.{member}
-use Rattle.message.specs.Rule.{code, kept, blank, lawful, writes}
+use Rattle.message.specs.Rule.{code, verbatim, blank, lawful, writes}
 use Rattle.message.specs.Values.{one}
 use Rattle.layout.specs.Layout.{types, liquidities, onTrade, tradeId}
 use Rattle.layout.specs.Records.{typeOf, tradeOf, liquidityOf, matchOf, crossOf}
@@ -36,5 +36,5 @@ match-lawful = by-event _ refl (λ t. refl) refl (λ t. refl) refl refl
 pub cross-lawful : (e : Event) → (leb 0 (tradeOf e .«cross_id») && leb (tradeOf e .«cross_id») 999999999) ≡ lawful (tradeId (typeOf e)) 9 (crossOf e)
 cross-lawful = by-event _ refl (λ t. refl) refl (λ t. refl) refl refl
 
-pub liquidity-text : (e : Event) → (tradeOf e .liquidity ∷ []) ≡ writes (onTrade (typeOf e) (code liquidities) (kept blank)) 1 (liquidityOf e)
+pub liquidity-text : (e : Event) → (tradeOf e .liquidity ∷ []) ≡ writes (onTrade (typeOf e) (code liquidities) (verbatim blank)) 1 (liquidityOf e)
 liquidity-text = by-event _ refl (λ t. refl) refl (λ t. refl) refl refl

@@ -7,7 +7,7 @@ use mathlib.Core.List.{List}
 use borrow.Author.Tests.{lt-ltb, ltb-true}
 use Rattle.field.specs.Byte.{isOf}
 use Rattle.field.specs.declared.Class.the-variants.{Printable}
-use Rattle.message.specs.Rule.{code, kept, text, run, lawful, fits}
+use Rattle.message.specs.Rule.{code, verbatim, text, run, lawful, fits}
 use Rattle.message.specs.Values.{one}
 use Rattle.run.proofs.Tests.{both}
 use Rattle.run.proofs.All.{all-wider}
@@ -22,10 +22,10 @@ use Rattle.slot.specs.Slots.{isByte, RunOf, Fits}
 printable-byte : (b : ℕ) → isOf Printable b ≡ true → b < 256
 printable-byte b e = let h = between 32 126 b e in omega arith
 
-text-fits : (w : ℕ) (s : List ℕ) → lawful (kept text) w (run s) ≡ true → RunOf w s
+text-fits : (w : ℕ) (s : List ℕ) → lawful (verbatim text) w (run s) ≡ true → RunOf w s
 text-fits w s l = (
-  writes-reads (kept text) w (run s) refl l .1,
-  all-wider (isOf Printable) isByte (λ b e. lt-ltb b 256 (printable-byte b e)) s (writes-printable (kept text) w (run s) refl l),
+  writes-reads (verbatim text) w (run s) refl l .1,
+  all-wider (isOf Printable) isByte (λ b e. lt-ltb b 256 (printable-byte b e)) s (writes-printable (verbatim text) w (run s) refl l),
 )
 
 code-fits : (codes : List ℕ) (b : ℕ) → fits (code codes) 1 ≡ true → lawful (code codes) 1 (one b) ≡ true → b < 256

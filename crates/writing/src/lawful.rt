@@ -3,7 +3,7 @@ ghost use mathlib.Core.Path.{_≡_};
 ghost use Rattle.writing.specs.Writes.{checkFrom};
 use crate::Checked;
 use field::Bytes;
-use field::kept;
+use field::verbatim;
 use layout::Record;
 
 // The first unlawful field, if there is one: here of fields 1 to 6, then group by group of the others. Field 2 is lawful in any
@@ -15,7 +15,7 @@ pub fn check(r: Record) -> Checked
         return Checked::Unlawful(1);
     }
     let firm = r.firm;
-    let Bytes::Lawful = kept::text(&firm) else {
+    let Bytes::Lawful = verbatim::text(&firm) else {
         return Checked::Unlawful(3);
     };
     if !run::member(r.capacity, &layout::CAPACITIES) {
@@ -39,23 +39,23 @@ fn account_fields(r: Record) -> Checked
     ensures { λ x. ⌜ x ≡ checkFrom 6 r ⌝ }
 {
     let account = r.account;
-    let Bytes::Lawful = kept::text_or_blank(&account) else {
+    let Bytes::Lawful = verbatim::text_or_blank(&account) else {
         return Checked::Unlawful(7);
     };
     let member = r.member;
-    let Bytes::Lawful = kept::digits_or_blank(&member) else {
+    let Bytes::Lawful = verbatim::digits_or_blank(&member) else {
         return Checked::Unlawful(8);
     };
     let clearing = r.clearing;
-    let Bytes::Lawful = kept::digits_or_blank(&clearing) else {
+    let Bytes::Lawful = verbatim::digits_or_blank(&clearing) else {
         return Checked::Unlawful(9);
     };
     let source = r.source;
-    let Bytes::Lawful = kept::text(&source) else {
+    let Bytes::Lawful = verbatim::text(&source) else {
         return Checked::Unlawful(10);
     };
     let token = r.token;
-    let Bytes::Lawful = kept::text(&token) else {
+    let Bytes::Lawful = verbatim::text(&token) else {
         return Checked::Unlawful(11);
     };
     let event = r.event;
@@ -72,7 +72,7 @@ fn order_fields(r: Record) -> Checked
     ensures { λ x. ⌜ x ≡ checkFrom 12 r ⌝ }
 {
     let reference = r.reference;
-    let Bytes::Lawful = kept::hex(&reference) else {
+    let Bytes::Lawful = verbatim::hex(&reference) else {
         return Checked::Unlawful(13);
     };
     if !run::member(r.side, &layout::SIDES) {
@@ -82,7 +82,7 @@ fn order_fields(r: Record) -> Checked
         return Checked::Unlawful(15);
     }
     let root = r.root;
-    let Bytes::Lawful = kept::text(&root) else {
+    let Bytes::Lawful = verbatim::text(&root) else {
         return Checked::Unlawful(16);
     };
     if !run::member(r.month, &layout::MONTHS) {

@@ -1,7 +1,7 @@
 -- `feed::hold::book_part` meets its contract: where nothing is held the part is the piece; else what is kept of the piece says what it says.
 use borrow.Author.Needs.{needs}
 use denote.Ref.{now}
-use Rattle.feed.proofs.Saying.{part-says, kept-says}
+use Rattle.feed.proofs.Saying.{part-says, verbatim-says}
 use Rattle.feed.proofs.hold.book_part.Statement.{statement}
 use Rattle.feed.proofs.hold.book_part.Tie as tie
 
@@ -38,7 +38,7 @@ same-length-5 c = search needs
 returns-2 : tie.Need-returns-2
 returns-2 c =
     let a = c .before .before .before .before .before .before .before .before .before .before .before .before .before .before .before .before .before .args in
-    let s = kept-says (a .line) (now (a .t)) _ _ (c .before .before .before .before .before .before .before .before .before .before .keep .ensures .0) (c .before .before .before .before .book-held .ensures) in
+    let s = verbatim-says (a .line) (now (a .t)) _ _ (c .before .before .before .before .before .before .before .before .before .before .keep .ensures .0) (c .before .before .before .before .book-held .ensures) in
     (s .0, (s .1, search needs))
 
 pub book-part-spec : {M : Type 1} → statement M

@@ -8,12 +8,12 @@ use denote.Ref.{now}
 use lib.Dec.{lit<, eqb}
 use lib.ListN.{getD}
 use Rattle.run.specs.Runs.{part}
-use Rattle.message.specs.Rule.{kept, text, textOrBlank, digitsOrBlank}
+use Rattle.message.specs.Rule.{verbatim, text, textOrBlank, digitsOrBlank}
 use Rattle.layout.specs.declared.Numbers.{Numbers}
 use Rattle.line.specs.declared.Reading.{Reading}
 use Rattle.line.specs.Groups.{readingFrom}
 use Rattle.line.proofs.Steps.{past, stops, kind-good, kind-bad}
-use Rattle.layout.specs.ByType.{keptOn}
+use Rattle.layout.specs.ByType.{bytesOn}
 use Rattle.layout.proofs.ByType.{kind-on-good, on-bad}
 use Rattle.line.proofs.fields.account_fields.Statement.{statement}
 use Rattle.line.proofs.fields.account_fields.Tie as tie
@@ -69,7 +69,7 @@ past-12 : (c : tie.After-enum-told11) (n : Numbers) (x : Reading) → x ≡ read
 past-12 c n x e =
     let s = piece-12 c in
     past-11 (c .before .before .before .before .before .before) n x
-    (past 11 n s x (lit< tt) (kind-on-good (eqb (getD s 8 0) 85) text (part s 56 20) _ (c .before .before .replaced .ensures ∙ ap (λ (t : Bool). keptOn t (kept text) (part s 56 20)) (c .before .before .before .is-replace .ensures)) (c .enum-told11 .given .1)) e)
+    (past 11 n s x (lit< tt) (kind-on-good (eqb (getD s 8 0) 85) text (part s 56 20) _ (c .before .before .replaced .ensures ∙ ap (λ (t : Bool). bytesOn t (verbatim text) (part s 56 20)) (c .before .before .before .is-replace .ensures)) (c .enum-told11 .given .1)) e)
 
 sub-text-or-blank : tie.Need-sub-text-or-blank
 sub-text-or-blank c = search needs
@@ -213,7 +213,7 @@ enum-told-12 c = search needs
 returns-6 : tie.Need-returns-6
 returns-6 c n =
     let s = piece-11 (c .before .before .before .before .before .before) in
-    past-11 (c .before .before .before .before .before .before) n _ (stops 11 n s _ (lit< tt) (on-bad (eqb (getD s 8 0) 85) (kept text) (part s 56 20) _ (c .before .before .replaced .ensures ∙ ap (λ (t : Bool). keptOn t (kept text) (part s 56 20)) (c .before .before .before .is-replace .ensures)) (c .enum-told12 .given .1)) refl)
+    past-11 (c .before .before .before .before .before .before) n _ (stops 11 n s _ (lit< tt) (on-bad (eqb (getD s 8 0) 85) (verbatim text) (part s 56 20) _ (c .before .before .replaced .ensures ∙ ap (λ (t : Bool). bytesOn t (verbatim text) (part s 56 20)) (c .before .before .before .is-replace .ensures)) (c .enum-told12 .given .1)) refl)
 
 no-numbers-requires : tie.Need-no-numbers-requires
 no-numbers-requires c κs = search needs

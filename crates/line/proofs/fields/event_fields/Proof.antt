@@ -9,7 +9,7 @@ use lib.Dec.{lit<}
 use lib.ListN.{getD}
 use Rattle.run.specs.Runs.{part}
 use Rattle.layout.specs.Layout.{isTrade}
-use Rattle.layout.specs.ByType.{keptOn}
+use Rattle.layout.specs.ByType.{bytesOn}
 use Rattle.line.specs.Groups.{readingFrom, withTimestamp}
 use Rattle.layout.specs.Layout.{types, capacities, positions, liquidities}
 use Rattle.field.specs.Number.{number as readNumber}
@@ -90,7 +90,7 @@ past-6 : (c : tie.After-enum-told10) (n : Numbers) (x : Reading) → x ≡ readi
 past-6 c n x e =
     let s = piece-6 c in
     past-5 (c .before .before .before .before .before .before) n x
-    (past 5 (numbers-6 c n) s x (lit< tt) (code-on-good (isTrade (getD s 8 0)) liquidities (part s 15 1) _ (c .before .before .liquidity .ensures ∙ ap (λ (t : Bool). keptOn t (code liquidities) (part s 15 1)) (c .before .before .before .is-trade .ensures)) (c .enum-told10 .given .1)) e)
+    (past 5 (numbers-6 c n) s x (lit< tt) (code-on-good (isTrade (getD s 8 0)) liquidities (part s 15 1) _ (c .before .before .liquidity .ensures ∙ ap (λ (t : Bool). bytesOn t (code liquidities) (part s 15 1)) (c .before .before .before .is-trade .ensures)) (c .enum-told10 .given .1)) e)
 
 sub-number : tie.Need-sub-number
 sub-number c = search needs
@@ -248,7 +248,7 @@ returns-6 : tie.Need-returns-6
 returns-6 c n =
     let s = piece-5 (c .before .before .before .before .before .before) in
     let m = numbers-5 (c .before .before .before .before .before .before) n in
-    past-5 (c .before .before .before .before .before .before) n _ (stops 5 m s _ (lit< tt) (on-bad (isTrade (getD s 8 0)) (code liquidities) (part s 15 1) _ (c .before .before .liquidity .ensures ∙ ap (λ (t : Bool). keptOn t (code liquidities) (part s 15 1)) (c .before .before .before .is-trade .ensures)) (c .enum-told11 .given .1)) refl)
+    past-5 (c .before .before .before .before .before .before) n _ (stops 5 m s _ (lit< tt) (on-bad (isTrade (getD s 8 0)) (code liquidities) (part s 15 1) _ (c .before .before .liquidity .ensures ∙ ap (λ (t : Bool). bytesOn t (code liquidities) (part s 15 1)) (c .before .before .before .is-trade .ensures)) (c .enum-told11 .given .1)) refl)
 
 no-numbers-requires : tie.Need-no-numbers-requires
 no-numbers-requires c κs = search needs

@@ -3,7 +3,7 @@ use mathlib.Core.Path.{sym, _∙_}
 use borrow.Author.Needs.{needs}
 use lib.Dec.{lit<}
 use Rattle.message.specs.Rule.{text, textOrBlank, digitsOrBlank}
-use Rattle.writing.proofs.Checks.{Past, kept-passes, kept-fails, kind-is, replaced-is}
+use Rattle.writing.proofs.Checks.{Past, verbatim-passes, verbatim-fails, kind-is, replaced-is}
 use Rattle.writing.proofs.Fields.{Sized}
 use Rattle.writing.proofs.lawful.account_fields.Statement.{statement}
 use Rattle.writing.proofs.lawful.account_fields.Tie as tie
@@ -26,12 +26,12 @@ enum-told-2 c = search needs
 returns : tie.Need-returns
 returns c =
     let s = c .before .before .before .before .before in
-    kept-fails 6 (s .args .r) (lit< tt) (c .before .before .text-or-blank .ensures ∙ kind-is textOrBlank 4 (s .args .r .account) (sized s .account)) (c .enum-told2 .given .1)
+    verbatim-fails 6 (s .args .r) (lit< tt) (c .before .before .text-or-blank .ensures ∙ kind-is textOrBlank 4 (s .args .r .account) (sized s .account)) (c .enum-told2 .given .1)
 
 past-7 : (c : tie.After-enum-told) → Past 6 7 (c .before .before .before .before .before .args .r)
 past-7 c =
     let s = c .before .before .before .before .before in
-    kept-passes 6 (s .args .r) (lit< tt) (c .before .before .text-or-blank .ensures ∙ kind-is textOrBlank 4 (s .args .r .account) (sized s .account)) (c .enum-told .given .1)
+    verbatim-passes 6 (s .args .r) (lit< tt) (c .before .before .text-or-blank .ensures ∙ kind-is textOrBlank 4 (s .args .r .account) (sized s .account)) (c .enum-told .given .1)
 
 slice-aggregate-digits-or-blank : tie.Need-slice-aggregate-digits-or-blank
 slice-aggregate-digits-or-blank c = search needs
@@ -48,12 +48,12 @@ enum-told-4 c = search needs
 returns-2 : tie.Need-returns-2
 returns-2 c =
     let s = c .before .before .before .before .before .before .before .before .before .before in
-    kept-fails 7 (s .args .r) (lit< tt) (c .before .before .digits-or-blank .ensures ∙ kind-is digitsOrBlank 5 (s .args .r .member) (sized s .member)) (c .enum-told4 .given .1) ∙ past-7 (c .before .before .before .before .before)
+    verbatim-fails 7 (s .args .r) (lit< tt) (c .before .before .digits-or-blank .ensures ∙ kind-is digitsOrBlank 5 (s .args .r .member) (sized s .member)) (c .enum-told4 .given .1) ∙ past-7 (c .before .before .before .before .before)
 
 past-8 : (c : tie.After-enum-told3) → Past 6 8 (c .before .before .before .before .before .before .before .before .before .before .args .r)
 past-8 c =
     let s = c .before .before .before .before .before .before .before .before .before .before in
-    kept-passes 7 (s .args .r) (lit< tt) (c .before .before .digits-or-blank .ensures ∙ kind-is digitsOrBlank 5 (s .args .r .member) (sized s .member)) (c .enum-told3 .given .1) ∙ past-7 (c .before .before .before .before .before)
+    verbatim-passes 7 (s .args .r) (lit< tt) (c .before .before .digits-or-blank .ensures ∙ kind-is digitsOrBlank 5 (s .args .r .member) (sized s .member)) (c .enum-told3 .given .1) ∙ past-7 (c .before .before .before .before .before)
 
 slice-aggregate-digits-or-blank-2 : tie.Need-slice-aggregate-digits-or-blank-2
 slice-aggregate-digits-or-blank-2 c = search needs
@@ -70,12 +70,12 @@ enum-told-6 c = search needs
 returns-3 : tie.Need-returns-3
 returns-3 c =
     let s = c .before .before .before .before .before .before .before .before .before .before .before .before .before .before .before in
-    kept-fails 8 (s .args .r) (lit< tt) (c .before .before .digits-or-blank2 .ensures ∙ kind-is digitsOrBlank 5 (s .args .r .clearing) (sized s .clearing)) (c .enum-told6 .given .1) ∙ past-8 (c .before .before .before .before .before)
+    verbatim-fails 8 (s .args .r) (lit< tt) (c .before .before .digits-or-blank2 .ensures ∙ kind-is digitsOrBlank 5 (s .args .r .clearing) (sized s .clearing)) (c .enum-told6 .given .1) ∙ past-8 (c .before .before .before .before .before)
 
 past-9 : (c : tie.After-enum-told5) → Past 6 9 (c .before .before .before .before .before .before .before .before .before .before .before .before .before .before .before .args .r)
 past-9 c =
     let s = c .before .before .before .before .before .before .before .before .before .before .before .before .before .before .before in
-    kept-passes 8 (s .args .r) (lit< tt) (c .before .before .digits-or-blank2 .ensures ∙ kind-is digitsOrBlank 5 (s .args .r .clearing) (sized s .clearing)) (c .enum-told5 .given .1) ∙ past-8 (c .before .before .before .before .before)
+    verbatim-passes 8 (s .args .r) (lit< tt) (c .before .before .digits-or-blank2 .ensures ∙ kind-is digitsOrBlank 5 (s .args .r .clearing) (sized s .clearing)) (c .enum-told5 .given .1) ∙ past-8 (c .before .before .before .before .before)
 
 slice-aggregate-text : tie.Need-slice-aggregate-text
 slice-aggregate-text c = search needs
@@ -92,12 +92,12 @@ enum-told-8 c = search needs
 returns-4 : tie.Need-returns-4
 returns-4 c =
     let s = c .before .before .before .before .before .before .before .before .before .before .before .before .before .before .before .before .before .before .before .before in
-    kept-fails 9 (s .args .r) (lit< tt) (c .before .before .text .ensures ∙ kind-is text 6 (s .args .r .source) (sized s .source)) (c .enum-told8 .given .1) ∙ past-9 (c .before .before .before .before .before)
+    verbatim-fails 9 (s .args .r) (lit< tt) (c .before .before .text .ensures ∙ kind-is text 6 (s .args .r .source) (sized s .source)) (c .enum-told8 .given .1) ∙ past-9 (c .before .before .before .before .before)
 
 past-10 : (c : tie.After-enum-told7) → Past 6 10 (c .before .before .before .before .before .before .before .before .before .before .before .before .before .before .before .before .before .before .before .before .args .r)
 past-10 c =
     let s = c .before .before .before .before .before .before .before .before .before .before .before .before .before .before .before .before .before .before .before .before in
-    kept-passes 9 (s .args .r) (lit< tt) (c .before .before .text .ensures ∙ kind-is text 6 (s .args .r .source) (sized s .source)) (c .enum-told7 .given .1) ∙ past-9 (c .before .before .before .before .before)
+    verbatim-passes 9 (s .args .r) (lit< tt) (c .before .before .text .ensures ∙ kind-is text 6 (s .args .r .source) (sized s .source)) (c .enum-told7 .given .1) ∙ past-9 (c .before .before .before .before .before)
 
 slice-aggregate-text-2 : tie.Need-slice-aggregate-text-2
 slice-aggregate-text-2 c = sym (sized (c .before .before .before .before .before .before .before .before .before .before .before .before .before .before .before .before .before .before .before .before .before .before) .token)
@@ -114,12 +114,12 @@ enum-told-10 c = search needs
 returns-5 : tie.Need-returns-5
 returns-5 c =
     let s = c .before .before .before .before .before .before .before .before .before .before .before .before .before .before .before .before .before .before .before .before .before .before .before .before .before in
-    kept-fails 10 (s .args .r) (lit< tt) (c .before .before .text2 .ensures ∙ kind-is text 20 (s .args .r .token) (sized s .token)) (c .enum-told10 .given .1) ∙ past-10 (c .before .before .before .before .before)
+    verbatim-fails 10 (s .args .r) (lit< tt) (c .before .before .text2 .ensures ∙ kind-is text 20 (s .args .r .token) (sized s .token)) (c .enum-told10 .given .1) ∙ past-10 (c .before .before .before .before .before)
 
 past-11 : (c : tie.After-enum-told9) → Past 6 11 (c .before .before .before .before .before .before .before .before .before .before .before .before .before .before .before .before .before .before .before .before .before .before .before .before .before .args .r)
 past-11 c =
     let s = c .before .before .before .before .before .before .before .before .before .before .before .before .before .before .before .before .before .before .before .before .before .before .before .before .before in
-    kept-passes 10 (s .args .r) (lit< tt) (c .before .before .text2 .ensures ∙ kind-is text 20 (s .args .r .token) (sized s .token)) (c .enum-told9 .given .1) ∙ past-10 (c .before .before .before .before .before)
+    verbatim-passes 10 (s .args .r) (lit< tt) (c .before .before .text2 .ensures ∙ kind-is text 20 (s .args .r .token) (sized s .token)) (c .enum-told9 .given .1) ∙ past-10 (c .before .before .before .before .before)
 
 slice-aggregate-replaced : tie.Need-slice-aggregate-replaced
 slice-aggregate-replaced c = sym (sized (c .before .before .before .before .before .before .before .before .before .before .before .before .before .before .before .before .before .before .before .before .before .before .before .before .before .before .before) .replaced)
@@ -142,12 +142,12 @@ enum-told-12 c = search needs
 returns-6 : tie.Need-returns-6
 returns-6 c =
     let s = c .before .before .before .before .before .before .before .before .before .before .before .before .before .before .before .before .before .before .before .before .before .before .before .before .before .before .before .before .before .before .before .before in
-    kept-fails 11 (s .args .r) (lit< tt) (c .before .before .replaced3 .ensures ∙ rw (c .before .before .before .is-replace .ensures, c .before .before .before .before .type-of .ensures) (replaced-is (s .args .r) (sized s .replaced))) (c .enum-told12 .given .1) ∙ past-11 (c .before .before .before .before .before .before .before)
+    verbatim-fails 11 (s .args .r) (lit< tt) (c .before .before .replaced3 .ensures ∙ rw (c .before .before .before .is-replace .ensures, c .before .before .before .before .type-of .ensures) (replaced-is (s .args .r) (sized s .replaced))) (c .enum-told12 .given .1) ∙ past-11 (c .before .before .before .before .before .before .before)
 
 past-12 : (c : tie.After-enum-told11) → Past 6 12 (c .before .before .before .before .before .before .before .before .before .before .before .before .before .before .before .before .before .before .before .before .before .before .before .before .before .before .before .before .before .before .before .before .args .r)
 past-12 c =
     let s = c .before .before .before .before .before .before .before .before .before .before .before .before .before .before .before .before .before .before .before .before .before .before .before .before .before .before .before .before .before .before .before .before in
-    kept-passes 11 (s .args .r) (lit< tt) (c .before .before .replaced3 .ensures ∙ rw (c .before .before .before .is-replace .ensures, c .before .before .before .before .type-of .ensures) (replaced-is (s .args .r) (sized s .replaced))) (c .enum-told11 .given .1) ∙ past-11 (c .before .before .before .before .before .before .before)
+    verbatim-passes 11 (s .args .r) (lit< tt) (c .before .before .replaced3 .ensures ∙ rw (c .before .before .before .is-replace .ensures, c .before .before .before .before .type-of .ensures) (replaced-is (s .args .r) (sized s .replaced))) (c .enum-told11 .given .1) ∙ past-11 (c .before .before .before .before .before .before .before)
 
 order-fields-requires : tie.Need-order-fields-requires
 order-fields-requires c κs = search needs

@@ -2,9 +2,9 @@
 use mathlib.Core.Path.{_≡_, _∙_}
 use borrow.Author.Needs.{needs}
 use lib.Dec.{lit<}
-use Rattle.field.specs.Kept.{kept as keptAnswer}
+use Rattle.field.specs.Verbatim.{lawfulIf}
 use Rattle.message.specs.Rule.{text}
-use Rattle.writing.proofs.Checks.{Past, judged, test-passes, test-fails, kept-passes, kept-fails, kind-is, liquidity-is}
+use Rattle.writing.proofs.Checks.{Past, judged, test-passes, test-fails, verbatim-passes, verbatim-fails, kind-is, liquidity-is}
 use Rattle.record.proofs.Events.{type-lawful}
 use Rattle.writing.proofs.Fields.{lawfulAt, Sized}
 use Rattle.writing.proofs.lawful.check.Statement.{statement}
@@ -41,12 +41,12 @@ enum-told-2 c = search needs
 returns-2 : tie.Need-returns-2
 returns-2 c =
     let s = c .before .before .before .before .before .before .before in
-    kept-fails 2 (s .args .r) (lit< tt) (c .before .before .text .ensures ∙ kind-is text 4 (s .args .r .firm) (sized s .firm)) (c .enum-told2 .given .1) ∙ past-2 (c .before .before .before .before .before)
+    verbatim-fails 2 (s .args .r) (lit< tt) (c .before .before .text .ensures ∙ kind-is text 4 (s .args .r .firm) (sized s .firm)) (c .enum-told2 .given .1) ∙ past-2 (c .before .before .before .before .before)
 
 past-3 : (c : tie.After-enum-told) → Past 0 3 (c .before .before .before .before .before .before .before .args .r)
 past-3 c =
     let s = c .before .before .before .before .before .before .before in
-    kept-passes 2 (s .args .r) (lit< tt) (c .before .before .text .ensures ∙ kind-is text 4 (s .args .r .firm) (sized s .firm)) (c .enum-told .given .1) ∙ past-2 (c .before .before .before .before .before)
+    verbatim-passes 2 (s .args .r) (lit< tt) (c .before .before .text .ensures ∙ kind-is text 4 (s .args .r .firm) (sized s .firm)) (c .enum-told .given .1) ∙ past-2 (c .before .before .before .before .before)
 
 slice-aggregate-member : tie.Need-slice-aggregate-member
 slice-aggregate-member c = search needs
@@ -95,7 +95,7 @@ is-trade-requires c κs = search needs
 liquidity-requires : tie.Need-liquidity-requires
 liquidity-requires c κs = search needs
 
-liquidity-said : (c : tie.After-liquidity2) → c .liquidity2 .result ≡ keptAnswer (lawfulAt (c .before .before .before .before .before .before .before .before .before .before .before .before .before .before .before .before .before .before .args .r) 5)
+liquidity-said : (c : tie.After-liquidity2) → c .liquidity2 .result ≡ lawfulIf (lawfulAt (c .before .before .before .before .before .before .before .before .before .before .before .before .before .before .before .before .before .before .args .r) 5)
 liquidity-said c = c .liquidity2 .ensures ∙ rw (c .before .is-trade .ensures, c .before .before .type-of .ensures, c .before .before .before .before .trade-of .ensures) (liquidity-is (c .before .before .before .before .before .before .before .before .before .before .before .before .before .before .before .before .before .before .args .r))
 
 enum-told-3 : tie.Need-enum-told-3
@@ -107,12 +107,12 @@ enum-told-4 c = search needs
 returns-5 : tie.Need-returns-5
 returns-5 c =
     let s = c .before .before .before .before .before .before .before .before .before .before .before .before .before .before .before .before .before .before .before .before in
-    kept-fails 5 (s .args .r) (lit< tt) (liquidity-said (c .before .before)) (c .enum-told4 .given .1) ∙ past-5 (c .before .before .before .before .before .before .before)
+    verbatim-fails 5 (s .args .r) (lit< tt) (liquidity-said (c .before .before)) (c .enum-told4 .given .1) ∙ past-5 (c .before .before .before .before .before .before .before)
 
 past-6 : (c : tie.After-enum-told3) → Past 0 6 (c .before .before .before .before .before .before .before .before .before .before .before .before .before .before .before .before .before .before .before .before .args .r)
 past-6 c =
     let s = c .before .before .before .before .before .before .before .before .before .before .before .before .before .before .before .before .before .before .before .before in
-    kept-passes 5 (s .args .r) (lit< tt) (liquidity-said (c .before .before)) (c .enum-told3 .given .1) ∙ past-5 (c .before .before .before .before .before .before .before)
+    verbatim-passes 5 (s .args .r) (lit< tt) (liquidity-said (c .before .before)) (c .enum-told3 .given .1) ∙ past-5 (c .before .before .before .before .before .before .before)
 
 account-fields-requires : tie.Need-account-fields-requires
 account-fields-requires c κs = search needs

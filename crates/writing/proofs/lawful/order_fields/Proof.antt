@@ -3,7 +3,7 @@ use mathlib.Core.Path.{_∙_}
 use borrow.Author.Needs.{needs}
 use lib.Dec.{lit<}
 use Rattle.message.specs.Rule.{text, hex}
-use Rattle.writing.proofs.Checks.{Past, test-passes, test-fails, kept-passes, kept-fails, kind-is}
+use Rattle.writing.proofs.Checks.{Past, test-passes, test-fails, verbatim-passes, verbatim-fails, kind-is}
 use Rattle.writing.proofs.Fields.{Sized}
 use Rattle.writing.proofs.lawful.order_fields.Statement.{statement}
 use Rattle.writing.proofs.lawful.order_fields.Tie as tie
@@ -26,12 +26,12 @@ enum-told-2 c = search needs
 returns : tie.Need-returns
 returns c =
     let s = c .before .before .before .before .before in
-    kept-fails 12 (s .args .r) (lit< tt) (c .before .before .hex .ensures ∙ kind-is hex 9 (s .args .r .reference) (sized s .reference)) (c .enum-told2 .given .1)
+    verbatim-fails 12 (s .args .r) (lit< tt) (c .before .before .hex .ensures ∙ kind-is hex 9 (s .args .r .reference) (sized s .reference)) (c .enum-told2 .given .1)
 
 past-13 : (c : tie.After-enum-told) → Past 12 13 (c .before .before .before .before .before .args .r)
 past-13 c =
     let s = c .before .before .before .before .before in
-    kept-passes 12 (s .args .r) (lit< tt) (c .before .before .hex .ensures ∙ kind-is hex 9 (s .args .r .reference) (sized s .reference)) (c .enum-told .given .1)
+    verbatim-passes 12 (s .args .r) (lit< tt) (c .before .before .hex .ensures ∙ kind-is hex 9 (s .args .r .reference) (sized s .reference)) (c .enum-told .given .1)
 
 slice-aggregate-member : tie.Need-slice-aggregate-member
 slice-aggregate-member c = search needs
@@ -77,12 +77,12 @@ enum-told-4 c = search needs
 returns-4 : tie.Need-returns-4
 returns-4 c =
     let s = c .before .before .before .before .before .before .before .before .before .before .before .before .before .before .before in
-    kept-fails 15 (s .args .r) (lit< tt) (c .before .before .text .ensures ∙ kind-is text 6 (s .args .r .root) (sized s .root)) (c .enum-told4 .given .1) ∙ past-15 (c .before .before .before .before .before)
+    verbatim-fails 15 (s .args .r) (lit< tt) (c .before .before .text .ensures ∙ kind-is text 6 (s .args .r .root) (sized s .root)) (c .enum-told4 .given .1) ∙ past-15 (c .before .before .before .before .before)
 
 past-16 : (c : tie.After-enum-told3) → Past 12 16 (c .before .before .before .before .before .before .before .before .before .before .before .before .before .before .before .args .r)
 past-16 c =
     let s = c .before .before .before .before .before .before .before .before .before .before .before .before .before .before .before in
-    kept-passes 15 (s .args .r) (lit< tt) (c .before .before .text .ensures ∙ kind-is text 6 (s .args .r .root) (sized s .root)) (c .enum-told3 .given .1) ∙ past-15 (c .before .before .before .before .before)
+    verbatim-passes 15 (s .args .r) (lit< tt) (c .before .before .text .ensures ∙ kind-is text 6 (s .args .r .root) (sized s .root)) (c .enum-told3 .given .1) ∙ past-15 (c .before .before .before .before .before)
 
 slice-aggregate-member-2 : tie.Need-slice-aggregate-member-2
 slice-aggregate-member-2 c = search needs

@@ -1,11 +1,11 @@
--- `field::kept::text_or_blank` meets its contract.
+-- `field::verbatim::text_or_blank` meets its contract.
 use mathlib.Core.Path.{_∙_, sym}
 use borrow.Author.Needs.{needs}
 use denote.Ref.{now}
-use Rattle.field.specs.Kept.{isText, isBlank}
+use Rattle.field.specs.Verbatim.{isText, isBlank}
 use Rattle.field.proofs.Returns.{first-kind, other-kind, lawful-true, unlawful-false}
-use Rattle.field.proofs.kept.text_or_blank.Statement.{statement}
-use Rattle.field.proofs.kept.text_or_blank.Tie as tie
+use Rattle.field.proofs.verbatim.text_or_blank.Statement.{statement}
+use Rattle.field.proofs.verbatim.text_or_blank.Tie as tie
 
 text-requires : tie.Need-text-requires
 text-requires c κs = search needs

@@ -1,4 +1,4 @@
--- `field::kept::all_of` meets its contract: what was seen so far, and the rest, give the whole answer.
+-- `field::verbatim::all_of` meets its contract: what was seen so far, and the rest, give the whole answer.
 use Prim.Native.Nat.{_≤_, _-_}
 use mathlib.Core.Path.{_≡_}
 use mathlib.Core.Bool.{_&&_}
@@ -7,8 +7,8 @@ use lib.ListN.{length, drop}
 use Rattle.run.specs.Runs.{all}
 use Rattle.field.specs.Byte.{isOf}
 use Rattle.run.proofs.Scan.{all-next, all-end}
-use Rattle.field.proofs.kept.all_of.Statement.{statement}
-use Rattle.field.proofs.kept.all_of.Tie as tie
+use Rattle.field.proofs.verbatim.all_of.Statement.{statement}
+use Rattle.field.proofs.verbatim.all_of.Tie as tie
 
 abbrev Inv-loop : tie.InvT-loop
 Inv-loop s class good₀ i₀ good i = (i ≤ length s) × (all (isOf class) s ≡ (good && all (isOf class) (drop i s)))

@@ -37,6 +37,6 @@ isCode codes (b ∷ []) = member b codes
 isCode codes (b ∷ c ∷ s) = false
 
 -- what a reader answers
-abbrev pub kept : Bool → Bytes
-kept true = Lawful
-kept false = Unlawful
+abbrev pub lawfulIf : Bool → Bytes
+lawfulIf true = Lawful
+lawfulIf false = Unlawful

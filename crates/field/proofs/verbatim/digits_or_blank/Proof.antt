@@ -1,9 +1,9 @@
--- `field::kept::digits_or_blank` meets its contract.
+-- `field::verbatim::digits_or_blank` meets its contract.
 use mathlib.Core.Path.{_∙_, sym}
 use borrow.Author.Needs.{needs}
 use Rattle.field.proofs.Returns.{first-kind, other-kind}
-use Rattle.field.proofs.kept.digits_or_blank.Statement.{statement}
-use Rattle.field.proofs.kept.digits_or_blank.Tie as tie
+use Rattle.field.proofs.verbatim.digits_or_blank.Statement.{statement}
+use Rattle.field.proofs.verbatim.digits_or_blank.Tie as tie
 
 all-of-requires : tie.Need-all-of-requires
 all-of-requires c κs = search needs

@@ -1,10 +1,10 @@
--- `field::kept::is_of` meets its contract: in each arm the class is known, and the tests are the definition's.
+-- `field::verbatim::is_of` meets its contract: in each arm the class is known, and the tests are the definition's.
 use mathlib.Core.Path.{ap, sym}
 use borrow.Author.Needs.{needs}
 use Rattle.field.specs.Byte.{isOf}
 use Rattle.field.specs.declared.Class.{Class}
-use Rattle.field.proofs.kept.is_of.Statement.{statement}
-use Rattle.field.proofs.kept.is_of.Tie as tie
+use Rattle.field.proofs.verbatim.is_of.Statement.{statement}
+use Rattle.field.proofs.verbatim.is_of.Tie as tie
 
 enum-told : tie.Need-enum-told
 enum-told c = search needs

@@ -2,8 +2,8 @@
 ghost use mathlib.Core.Path.{_≡_};
 ghost use Rattle.run.specs.Runs.{all};
 ghost use Rattle.field.specs.Byte.{isOf};
-ghost use Rattle.field.specs.Kept.{isText, isBlank, isTextOrBlank, isDigitsOrBlank, isHex, isCode};
-ghost use Rattle.field.specs.Kept.{kept as Kept·kept};
+ghost use Rattle.field.specs.Verbatim.{isText, isBlank, isTextOrBlank, isDigitsOrBlank, isHex, isCode};
+ghost use Rattle.field.specs.Verbatim.{lawfulIf};
 use crate::Bytes;
 use crate::Class;
 
@@ -31,14 +31,14 @@ pub fn all_of(s: &[u8], class: Class) -> bool
     good
 }
 
-fn kept(good: bool) -> Bytes
-    ensures { λ r. ⌜ r ≡ Kept·kept good ⌝ }
+fn lawful_if(good: bool) -> Bytes
+    ensures { λ r. ⌜ r ≡ lawfulIf good ⌝ }
 {
     if good { Bytes::Lawful } else { Bytes::Unlawful }
 }
 
 pub fn text(s: &[u8]) -> Bytes
-    ensures { λ r. ⌜ r ≡ Kept·kept (isText (now (s .entry))) ⌝ }
+    ensures { λ r. ⌜ r ≡ lawfulIf (isText (now (s .entry))) ⌝ }
 {
     if s.len() == 0 {
         return Bytes::Unlawful;
@@ -46,17 +46,17 @@ pub fn text(s: &[u8]) -> Bytes
     if s[0] == 32 {
         return Bytes::Unlawful;
     }
-    kept(all_of(s, Class::Printable))
+    lawful_if(all_of(s, Class::Printable))
 }
 
 pub fn blank(s: &[u8]) -> Bytes
-    ensures { λ r. ⌜ r ≡ Kept·kept (isBlank (now (s .entry))) ⌝ }
+    ensures { λ r. ⌜ r ≡ lawfulIf (isBlank (now (s .entry))) ⌝ }
 {
-    kept(all_of(s, Class::Space))
+    lawful_if(all_of(s, Class::Space))
 }
 
 pub fn text_or_blank(s: &[u8]) -> Bytes
-    ensures { λ r. ⌜ r ≡ Kept·kept (isTextOrBlank (now (s .entry))) ⌝ }
+    ensures { λ r. ⌜ r ≡ lawfulIf (isTextOrBlank (now (s .entry))) ⌝ }
 {
     let Bytes::Unlawful = text(s) else {
         return Bytes::Lawful;
@@ -65,7 +65,7 @@ pub fn text_or_blank(s: &[u8]) -> Bytes
 }
 
 pub fn digits_or_blank(s: &[u8]) -> Bytes
-    ensures { λ r. ⌜ r ≡ Kept·kept (isDigitsOrBlank (now (s .entry))) ⌝ }
+    ensures { λ r. ⌜ r ≡ lawfulIf (isDigitsOrBlank (now (s .entry))) ⌝ }
 {
     if all_of(s, Class::Digit) {
         return Bytes::Lawful;
@@ -74,16 +74,16 @@ pub fn digits_or_blank(s: &[u8]) -> Bytes
 }
 
 pub fn hex(s: &[u8]) -> Bytes
-    ensures { λ r. ⌜ r ≡ Kept·kept (isHex (now (s .entry))) ⌝ }
+    ensures { λ r. ⌜ r ≡ lawfulIf (isHex (now (s .entry))) ⌝ }
 {
-    kept(all_of(s, Class::Hex))
+    lawful_if(all_of(s, Class::Hex))
 }
 
 pub fn code(s: &[u8], codes: &[u8]) -> Bytes
-    ensures { λ r. ⌜ r ≡ Kept·kept (isCode (now (codes .entry)) (now (s .entry))) ⌝ }
+    ensures { λ r. ⌜ r ≡ lawfulIf (isCode (now (codes .entry)) (now (s .entry))) ⌝ }
 {
     if s.len() != 1 {
         return Bytes::Unlawful;
     }
-    kept(run::member(s[0], codes))
+    lawful_if(run::member(s[0], codes))
 }
