@@ -26,9 +26,9 @@ use Rattle.book.specs.Promises.{Books, bookingOf}
 use Rattle.book.specs.declared.Booking.{Booking}
 use Rattle.book.proofs.Lengths.{day-length}
 use Rattle.book.proofs.Reached.{reached-bytes}
-use Rattle.sheet.specs.Promises.{Sheets, writingOf, sheetAnswer, sheetFrom, textOf}
+use Rattle.sheet.specs.Promises.{Sheets, sheetWrittenOf, sheetAnswer, sheetFrom, textOf}
 use Rattle.sheet.specs.Texts.{sheetText}
-use Rattle.sheet.specs.declared.Writing.{Writing}
+use Rattle.sheet.specs.declared.SheetWritten.{SheetWritten}
 use Rattle.sheet.proofs.Bound.{sheet-bound}
 use Rattle.feed.specs.Printed.{report, printedFrom}
 use Rattle.delivery.specs.Delivered.{Call, Day, begun, booked, acceptedIn, inOrder, refusalLines, Shows, Delivery}
@@ -45,8 +45,8 @@ module _ (s : List ℕ) (good : sound s ≡ true) (out : List ℕ) (room : lengt
   unfolding sheetAnswer
   answer = rw (good, le-ltb (length out) (length (textOf s)) room)
 
-  sheet-written : {x : Writing} {after : List ℕ} → Sheets s out x after
-      → (writingOf x ≡ value (length (textOf s))) × (after ≡ textOf s ++ drop (length (textOf s)) out)
+  sheet-written : {x : SheetWritten} {after : List ℕ} → Sheets s out x after
+      → (sheetWrittenOf x ≡ value (length (textOf s))) × (after ≡ textOf s ++ drop (length (textOf s)) out)
   sheet-written p = (
     p .said ∙ answer,
     p .out ∙ ap (λ (a : Answer ℕ). sheetFrom a s out) answer ∙ sets-eq (textOf s) out 0 (omega arith)

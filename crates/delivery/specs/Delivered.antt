@@ -14,9 +14,9 @@ use Rattle.table.specs.Tables.{limitOf}
 use Rattle.table.specs.declared.Made.{Made}
 use Rattle.book.specs.Promises.{Books, bookingOf}
 use Rattle.book.specs.declared.Booking.{Booking}
-use Rattle.sheet.specs.Promises.{Sheets, writingOf}
+use Rattle.sheet.specs.Promises.{Sheets, sheetWrittenOf}
 use Rattle.sheet.specs.Texts.{textOfSheet, longestSheet}
-use Rattle.sheet.specs.declared.Writing.{Writing}
+use Rattle.sheet.specs.declared.SheetWritten.{SheetWritten}
 use Rattle.piece.specs.Pieces.{pieces}
 use Rattle.feed.specs.Printed.{report, printed}
 
@@ -59,8 +59,8 @@ pub record Shows (limit : ℕ) (h : History) (table : List ℕ) : Type 0 where
   -- "and size equals executed plus cancelled plus passed on plus open"
   pub adds-up : Each AddsUp (sheet .rows)
   -- "Given room": its text is written, and only the bytes it needs, from the front
-  pub written : (out : List ℕ) (x : Writing) (after : List ℕ) → Sheets table out x after → length (textOfSheet sheet) ≤ length out
-      → (writingOf x ≡ value (length (textOfSheet sheet))) × (after ≡ textOfSheet sheet ++ drop (length (textOfSheet sheet)) out)
+  pub written : (out : List ℕ) (x : SheetWritten) (after : List ℕ) → Sheets table out x after → length (textOfSheet sheet) ≤ length out
+      → (sheetWrittenOf x ≡ value (length (textOfSheet sheet))) × (after ≡ textOfSheet sheet ++ drop (length (textOfSheet sheet)) out)
   -- and there is room in every buffer of this length
   pub room : length (textOfSheet sheet) ≤ longestSheet limit
 

@@ -27,9 +27,9 @@ use Rattle.table.specs.declared.Made.the-variants.{Done, Refused}
 use Rattle.book.specs.Promises.{bookingOf, Books}
 use Rattle.book.specs.declared.Booking.{Booking}
 use Rattle.book.specs.declared.Booking.the-variants.{Booked, Refused as Booking·Refused}
-use Rattle.sheet.specs.Promises.{sheetAnswer, writingOf, Sheets}
-use Rattle.sheet.specs.declared.Writing.{Writing}
-use Rattle.sheet.specs.declared.Writing.the-variants.{Done as Writing·Done, Refused as Writing·Refused}
+use Rattle.sheet.specs.Promises.{sheetAnswer, sheetWrittenOf, Sheets}
+use Rattle.sheet.specs.declared.SheetWritten.{SheetWritten}
+use Rattle.sheet.specs.declared.SheetWritten.the-variants.{Done as SheetWritten·Done, Refused as SheetWritten·Refused}
 use Rattle.piece.specs.Pieces.{nextPiece}
 use Rattle.piece.specs.declared.Ahead.{Ahead}
 use Rattle.door.specs.Promises.{codeOf, numberAfter, endOf, StrikeValues, StrikeForms, Clocks, Empties, Checks, Finds, OrdersAt, BooksIn, SheetsIn, NextPieces}
@@ -149,15 +149,15 @@ module _ (before piece : List ℕ) (x : Booking) (after : List ℕ) (h : Books b
   pub unbooked : (y : Refusal) (k : ℕ) → x ≡ Booking·Refused y → k ≡ codeFor y → BooksIn before piece k after
   unbooked y k e c = record { said = says-refusal (ap bookingOf (sym e) ∙ h .said) c; out = h .out }
 
-module _ (table before : List ℕ) (written : ℕ) (x : Writing) (after : List ℕ) (h : Sheets table before x after) where
-  pub sheeted : (n : ℕ) → x ≡ Writing·Done n → SheetsIn table before written 0 after n
+module _ (table before : List ℕ) (written : ℕ) (x : SheetWritten) (after : List ℕ) (h : Sheets table before x after) where
+  pub sheeted : (n : ℕ) → x ≡ SheetWritten·Done n → SheetsIn table before written 0 after n
   sheeted n e =
-      let s : value n ≡ sheetAnswer table before = ap writingOf (sym e) ∙ h .said in
+      let s : value n ≡ sheetAnswer table before = ap sheetWrittenOf (sym e) ∙ h .said in
       record { said = says-value s; told = tells-value (λ y. y) written s; out = h .out }
 
-  pub unsheeted : (y : Refusal) (k : ℕ) → x ≡ Writing·Refused y → k ≡ codeFor y → SheetsIn table before written k after written
+  pub unsheeted : (y : Refusal) (k : ℕ) → x ≡ SheetWritten·Refused y → k ≡ codeFor y → SheetsIn table before written k after written
   unsheeted y k e c =
-      let s : refusedBy y ≡ sheetAnswer table before = ap writingOf (sym e) ∙ h .said in
+      let s : refusedBy y ≡ sheetAnswer table before = ap sheetWrittenOf (sym e) ∙ h .said in
       record { said = says-refusal s c; told = tells-nothing (λ y. y) written s; out = h .out }
 
 -- ---- texts

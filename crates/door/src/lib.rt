@@ -14,7 +14,7 @@ use line::StrikeValue;
 use line::TimeOfDay;
 use piece::Ahead;
 use refusal::Refusal;
-use sheet::Writing;
+use sheet::SheetWritten;
 use table::Found;
 use table::Made;
 use table::damage;
@@ -200,11 +200,11 @@ pub extern "C" fn skurzelt_sheet(table: &[u8], out: &mut [u8], written: &mut u64
     ensures { λ r. ⌜ SheetsIn (now (table .entry)) (now (out .entry)) (now (written .entry)) r (now (out .exit)) (now (written .exit)) ⌝ }
 {
     match sheet::write(table, out) {
-        Writing::Done(n) => {
+        SheetWritten::Done(n) => {
             *written = n as u64;
             DONE
         }
-        Writing::Refused(x) => code(x),
+        SheetWritten::Refused(x) => code(x),
     }
 }
 

@@ -7,11 +7,11 @@ ghost use mathlib.Core.List.{[]};
 ghost use lib.ListN.{length};
 ghost use Rattle.table.specs.Tables.{limitOf, sound};
 ghost use Rattle.feed.specs.Steps.{between, holdLength, longest, roomAtEnd};
-ghost use Rattle.chunk.specs.Promises.{Prints, Reads};
-use chunk::Kept;
+ghost use Rattle.sheet_run.specs.Promises.{Prints, Reads};
+use sheet_run::Kept;
 
 fn main() {
-    let mut table = chunk::table_buffer();
+    let mut table = sheet_run::table_buffer();
     let mut hold = [0u8; feed::HOLD];
     let mut input = io::large_buffer();
     let mut out = io::large_buffer();
@@ -25,12 +25,12 @@ fn run(t: &mut [u8], hold: &mut [u8], input: &mut [u8], out: &mut [u8]) -> bool
     requires { ⌜ roomAtEnd (limitOf (length (now t))) ≤ length (now out) ⌝ }
     ensures { λ r. ⌜ (r ≡ true → Prints (now (t .entry)) (now (out .exit))) ⌝ }
 {
-    chunk::begin(t);
+    sheet_run::begin(t);
     let kept = read_all(t, hold, input, out);
     if !kept.good {
         return false;
     }
-    if !chunk::end(t, hold, kept.held, kept.line, out) {
+    if !sheet_run::end(t, hold, kept.held, kept.line, out) {
         unwritten();
         return false;
     }
@@ -61,7 +61,7 @@ fn read_all(t: &mut [u8], hold: &mut [u8], input: &mut [u8], out: &mut [u8]) -> 
                 good: true,
             };
         }
-        let kept = chunk::take(&input[0..n], t, hold, held, line, out);
+        let kept = sheet_run::take(&input[0..n], t, hold, held, line, out);
         if !kept.good {
             unwritten();
             return kept;

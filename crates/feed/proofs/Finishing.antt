@@ -14,10 +14,10 @@ use Rattle.table.proofs.Limits.{limit-is}
 use Rattle.book.proofs.Lengths.{booked-length}
 use Rattle.book.proofs.Machine.{booked-sound}
 use Rattle.row.specs.Writes.{Wrote}
-use Rattle.sheet.specs.Promises.{textOf, writingOf, sheetAnswer, sheetFrom, Sheets}
+use Rattle.sheet.specs.Promises.{textOf, sheetWrittenOf, sheetAnswer, sheetFrom, Sheets}
 use Rattle.sheet.specs.Texts.{longestSheet}
-use Rattle.sheet.specs.declared.Writing.{Writing}
-use Rattle.sheet.specs.declared.Writing.the-variants.{Done, Refused}
+use Rattle.sheet.specs.declared.SheetWritten.{SheetWritten}
+use Rattle.sheet.specs.declared.SheetWritten.the-variants.{Done, Refused}
 use Rattle.sheet.proofs.Bound.{sheet-bound, least-sheet}
 use Rattle.sheet.proofs.Joining.{lent, back, one-text}
 use Rattle.feed.specs.Steps.{Between, between, longest, lastSaid, lastTable, finished, roomAtEnd}
@@ -25,10 +25,10 @@ use Rattle.feed.proofs.Longest.{said-most}
 
 -- ---- the sheet
 
-refusal-apart : (x : Writing) (y : Refusal) (a : Answer ℕ) (n : ℕ) → x ≡ Refused y → writingOf x ≡ a → a ≡ value n → ⊥
+refusal-apart : (x : SheetWritten) (y : Refusal) (a : Answer ℕ) (n : ℕ) → x ≡ Refused y → sheetWrittenOf x ≡ a → a ≡ value n → ⊥
 refusal-apart x y a n q w e = let z : _≡_ {A = ℕ} 0 1 = cc in omega arith
 
-done-so : (x : Writing) (a : Answer ℕ) (n m : ℕ) → x ≡ Done n → writingOf x ≡ a → a ≡ value m → n ≡ m
+done-so : (x : SheetWritten) (a : Answer ℕ) (n m : ℕ) → x ≡ Done n → sheetWrittenOf x ≡ a → a ≡ value m → n ≡ m
 done-so x a n m q w e = cc
 
 module _ (s before : List ℕ) (e : sound s ≡ true) (h : longestSheet (limitOf (length s)) ≤ length before) where
@@ -36,10 +36,10 @@ module _ (s before : List ℕ) (e : sound s ≡ true) (h : longestSheet (limitOf
   unfolding sheetAnswer
   sheet-done = rw (e, le-ltb (length before) (length (textOf s)) (omega (arith, sheet-bound s e)))
 
-  pub never-refused : {x : Writing} {y : Refusal} {after : List ℕ} → x ≡ Refused y → Sheets s before x after → ⊥
+  pub never-refused : {x : SheetWritten} {y : Refusal} {after : List ℕ} → x ≡ Refused y → Sheets s before x after → ⊥
   never-refused {x} {y} q w = refusal-apart x y (sheetAnswer s before) (length (textOf s)) q (w .said) sheet-done
 
-  pub sheet-written : {x : Writing} {n : ℕ} {after : List ℕ} → x ≡ Done n → Sheets s before x after → Wrote (textOf s) before after n
+  pub sheet-written : {x : SheetWritten} {n : ℕ} {after : List ℕ} → x ≡ Done n → Sheets s before x after → Wrote (textOf s) before after n
   sheet-written {x} {n} q w =
       record {
         long = done-so x (sheetAnswer s before) n (length (textOf s)) q (w .said) sheet-done;

@@ -12,7 +12,7 @@ ghost use Rattle.feed.specs.Steps.{Fits, between, finished, heldIn, hold
 mod hold;
 mod report;
 
-use sheet::Writing;
+use sheet::SheetWritten;
 
 // One byte more than a line, so that a piece that is too long is seen to be.
 pub const HOLD: usize = 141;
@@ -110,7 +110,7 @@ fn sheet_of(t: &[u8], out: &mut [u8]) -> usize
     requires { ⌜ longestSheet (limitOf (length (now t))) ≤ length (now out) ⌝ }
     ensures { λ r. ⌜ Wrote (textOf (now (t .entry))) (now (out .entry)) (now (out .exit)) r ⌝ }
 {
-    let Writing::Done(n) = sheet::write_sound(t, out) else {
+    let SheetWritten::Done(n) = sheet::write_sound(t, out) else {
         return 0;
     };
     n

@@ -89,20 +89,20 @@ module _
 -- ---- writing
 
 -- s is v as `write` writes it, and v fits
-abbrev pub Written : (ℕ → ℕ → List ℕ) → List ℕ → ℕ → Type 0
-Written write s v = (write (length s) v ≡ s) × (v < 10 ^ length s)
+abbrev pub FillWritten : (ℕ → ℕ → List ℕ) → List ℕ → ℕ → Type 0
+FillWritten write s v = (write (length s) v ≡ s) × (v < 10 ^ length s)
 
 pub length-snoc : (s : List ℕ) (b : ℕ) → length (s ++ (b ∷ [])) ≡ suc (length s)
 length-snoc s b = length-append s (b ∷ []) ∙ add-one (length s)
 
 -- one byte more behind what is written
-pub snoc-written : (write : ℕ → ℕ → List ℕ) (fill : ℕ) (s : List ℕ) (b n v : ℕ) → Written (rest fill) s n → v / 10 ≡ n
-    → write (suc (length s)) v ≡ rest fill (length s) (v / 10) ++ (b ∷ []) → Written write (s ++ (b ∷ [])) v
+pub snoc-written : (write : ℕ → ℕ → List ℕ) (fill : ℕ) (s : List ℕ) (b n v : ℕ) → FillWritten (rest fill) s n → v / 10 ≡ n
+    → write (suc (length s)) v ≡ rest fill (length s) (v / 10) ++ (b ∷ []) → FillWritten write (s ++ (b ∷ [])) v
 snoc-written write fill s b n v w q e = rw (length-snoc s b) (e ∙ rw (q, w .0), omega (arith, pow-suc 10 (length s)))
 
 -- digits that are read behind what is written, unless the first is a 0 for which the fill stands
 pub digits-written : (fill : ℕ) (s : List ℕ) (b : ℕ) (t : List ℕ) (n v : ℕ) → (n * 10 + (b - 48) ≡ 0 → fill ≡ 48)
-    → Written (rest fill) s n → digitsAfter n (b ∷ t) ≡ Value v → Written (filled fill) (s ++ b ∷ t) v
+    → FillWritten (rest fill) s n → digitsAfter n (b ∷ t) ≡ Value v → FillWritten (filled fill) (s ++ b ∷ t) v
 digits-written fill s b [] n v h w e =
     let d = first-digit n b [] v e in
     let m : n * 10 + (b - 48) ≡ v = cc in

@@ -14,7 +14,7 @@ use Rattle.field.specs.Number.{digitsAfter, loneZero, spaced, within, do
 use Rattle.field.specs.declared.Number.{Number}
 use Rattle.field.specs.declared.Number.the-variants.{Value, Bad}
 use Rattle.field.proofs.Fill.{between, bad-value, guarded, first-digit, digits-then, digit-read, filled-read}
-use Rattle.field.proofs.Fill.{Written, length-snoc, snoc-written, digits-written}
+use Rattle.field.proofs.Fill.{FillWritten, length-snoc, snoc-written, digits-written}
 
 -- ---- how large a number of so many digits is
 
@@ -92,18 +92,18 @@ spaced-back zero v h k = absurd (omega arith)
 spaced-back (suc w) v h k = spaced-read w v k
 
 -- a number that is read behind the spaces p
-spaced-written : (p s : List ℕ) (v : ℕ) → Written (rest 32) p 0 → spaced s ≡ Value v → Written (filled 32) (p ++ s) v
+spaced-written : (p s : List ℕ) (v : ℕ) → FillWritten (rest 32) p 0 → spaced s ≡ Value v → FillWritten (filled 32) (p ++ s) v
 spaced-written p [] v w e = absurd (bad-value e)
 spaced-written p (b ∷ s) v w e = go (eqb b 32) (eqb b 48) refl refl (spaced-written (p ++ (b ∷ [])) s v) e
   where
-    lone : (r : List ℕ) → b ≡ 48 → loneZero r ≡ Value v → Written (filled 32) (p ++ b ∷ r) v
+    lone : (r : List ℕ) → b ≡ 48 → loneZero r ≡ Value v → FillWritten (filled 32) (p ++ b ∷ r) v
     lone [] x e = let z : v ≡ 0 = cc in rw (z, x) (snoc-written (filled 32) 32 p 48 0 0 w refl refl)
     lone (c ∷ r) x e = absurd (bad-value e)
 
     go : (space naught : Bool) → eqb b 32 ≡ space → eqb b 48 ≡ naught
-        → (Written (rest 32) (p ++ (b ∷ [])) 0 → spaced s ≡ Value v → Written (filled 32) (p ++ (b ∷ []) ++ s) v)
+        → (FillWritten (rest 32) (p ++ (b ∷ [])) 0 → spaced s ≡ Value v → FillWritten (filled 32) (p ++ (b ∷ []) ++ s) v)
         → cond space (spaced s) (cond naught (loneZero s) (digitsAfter 0 (b ∷ s))) ≡ Value v
-        → Written (filled 32) (p ++ b ∷ s) v
+        → FillWritten (filled 32) (p ++ b ∷ s) v
     go true naught x y ih e = rw append-assoc at (ih (snoc-written (rest 32) 32 p b 0 0 w refl (rw (eqb-true b 32 x))) e)
     go false true x y ih e = lone s (eqb-true b 48 y) e
     go false false x y ih e =
@@ -133,7 +133,7 @@ price-read w v h k =
     price-parts (filled 32 (w - 4) (v / 10000)) (filled 48 4 (v % 10000)) (length-filled 48 4 (v % 10000))
     ∙ rw (a, digits-read 4 (v % 10000) (omega arith)) (ap Value (omega arith))
 
-price-written : (a c : List ℕ) (m n : ℕ) → length c ≡ 4 → Written (filled 32) a m → Written (filled 48) c n → Written priceText (a ++ c) (m * 10000 + n)
+price-written : (a c : List ℕ) (m n : ℕ) → length c ≡ 4 → FillWritten (filled 32) a m → FillWritten (filled 48) c n → FillWritten priceText (a ++ c) (m * 10000 + n)
 price-written a c m n h x y =
     let z : n < 10000 = rw h at (y .1) in
     let l : length (a ++ c) ≡ length a + 4 = omega (arith, length-append a c) in
@@ -149,7 +149,7 @@ price-write s v e = go (spaced (take i s)) (digitsAfter 0 (drop i s)) refl refl 
     i : ℕ
     i = length s - 4
 
-    go : (x y : Number) → spaced (take i s) ≡ x → digitsAfter 0 (drop i s) ≡ y → dollars x y ≡ Value v → Written priceText s v
+    go : (x y : Number) → spaced (take i s) ≡ x → digitsAfter 0 (drop i s) ≡ y → dollars x y ≡ Value v → FillWritten priceText s v
     go (Value m) (Value n) p q e =
         let some : 0 < length (take i s) = spaced-some (take i s) m p in
         let long : 5 ≤ length s = omega (arith, length-take i s) in

@@ -14,7 +14,7 @@ use Rattle.field.specs.Number.{spaced, rest, filled}
 use Rattle.field.specs.declared.Class.the-variants.{Digit}
 use Rattle.field.specs.declared.Number.the-variants.{Value}
 use Rattle.run.proofs.Tests.{both}
-use Rattle.field.proofs.Fill.{Written, is-between, length-snoc, snoc-written}
+use Rattle.field.proofs.Fill.{FillWritten, is-between, length-snoc, snoc-written}
 use Rattle.field.proofs.Laws.{spaced-read}
 use Rattle.row.specs.Texts.{decimalIn, decimal}
 
@@ -28,7 +28,7 @@ decimal-more w n h = rw (le-ltb n 10 h)
 
 -- ---- as the writer of a field writes it, where the width is that of its digits
 
-digit-written : (w n : ℕ) → n < 10 → Written (filled 32) (decimalIn (suc w) n) n
+digit-written : (w n : ℕ) → n < 10 → FillWritten (filled 32) (decimalIn (suc w) n) n
 digit-written w n h =
     let e : n % 10 ≡ n = omega arith in
     rw (decimal-digit w n h) (snoc-written (filled 32) 32 [] (48 + n) 0 n (refl, omega arith) (omega arith) (rw e))
@@ -37,17 +37,17 @@ rest-filled : (w v : ℕ) → 0 < v → filled 32 w v ≡ rest 32 w v
 rest-filled zero v h = refl
 rest-filled (suc w) v h = rw (ne-eqb v 0 (λ e. omega arith))
 
-more-written : (w n : ℕ) → 10 ≤ n → Written (filled 32) (decimalIn (suc w) (n / 10)) (n / 10) → Written (filled 32) (decimalIn (suc (suc w)) n) n
+more-written : (w n : ℕ) → 10 ≤ n → FillWritten (filled 32) (decimalIn (suc w) (n / 10)) (n / 10) → FillWritten (filled 32) (decimalIn (suc (suc w)) n) n
 more-written w n h p =
     let s = decimalIn (suc w) (n / 10) in
-    let q : Written (rest 32) s (n / 10) = (sym (rest-filled (length s) (n / 10) (omega arith)) ∙ p .0, p .1) in
+    let q : FillWritten (rest 32) s (n / 10) = (sym (rest-filled (length s) (n / 10) (omega arith)) ∙ p .0, p .1) in
     rw (decimal-more (suc w) n h) (snoc-written (filled 32) 32 s (48 + n % 10) (n / 10) n q refl refl)
 
-decimal-written : (w n : ℕ) → n < 10 ^ suc w → Written (filled 32) (decimalIn (suc w) n) n
+decimal-written : (w n : ℕ) → n < 10 ^ suc w → FillWritten (filled 32) (decimalIn (suc w) n) n
 decimal-written zero n h = digit-written zero n (omega arith)
 decimal-written (suc w) n h = go (ltb n 10) refl (decimal-written w (n / 10) (omega (arith, pow-suc 10 (suc w))))
   where
-    go : (t : Bool) → ltb n 10 ≡ t → Written (filled 32) (decimalIn (suc w) (n / 10)) (n / 10) → Written (filled 32) (decimalIn (suc (suc w)) n) n
+    go : (t : Bool) → ltb n 10 ≡ t → FillWritten (filled 32) (decimalIn (suc w) (n / 10)) (n / 10) → FillWritten (filled 32) (decimalIn (suc (suc w)) n) n
     go true e ih = digit-written (suc w) n (ltb-true n 10 e)
     go false e ih = more-written w n (ltb-false n 10 e) ih
 

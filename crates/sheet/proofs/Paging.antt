@@ -23,12 +23,12 @@ use Rattle.slot.specs.Places.{ordersIn}
 use Rattle.slot.proofs.Laws.{length-orders}
 use Rattle.table.specs.Tables.{countIn, sound, tableIn}
 use Rattle.sheet.specs.Pages.{Pages, pageAnswer, pageFrom, pageOf, pageOfSheet, rowByRow}
-use Rattle.sheet.specs.Promises.{textOf, writingOf}
+use Rattle.sheet.specs.Promises.{textOf, sheetWrittenOf}
 use Rattle.sheet.specs.Texts.{rowsText}
 use Rattle.sheet.specs.Walk.{eldersIn, membersLeft, stretchText, textLeft}
 use Rattle.sheet.specs.declared.Turn.{Turn}
-use Rattle.sheet.specs.declared.Writing.{Writing}
-use Rattle.sheet.specs.declared.Writing.the-variants.{Done, Refused}
+use Rattle.sheet.specs.declared.SheetWritten.{SheetWritten}
+use Rattle.sheet.specs.declared.SheetWritten.the-variants.{Done, Refused}
 use Rattle.sheet.proofs.Answering.{families-counted}
 use Rattle.sheet.proofs.Rowing.{walk-rows}
 use Rattle.sheet.proofs.Seeking.{length-elders-in}
@@ -117,7 +117,7 @@ module _ (text before : List ℕ) where
   unfolding pageAnswer
   fitted t e = rw e
 
-  answered : (after : List ℕ) (x : Writing) (answer : Answer ℕ) → pageAnswer text before ≡ answer → writingOf x ≡ answer
+  answered : (after : List ℕ) (x : SheetWritten) (answer : Answer ℕ) → pageAnswer text before ≡ answer → sheetWrittenOf x ≡ answer
       → after ≡ pageFrom answer text before → Pages text before x after
   answered after x answer e p q = record { said = p ∙ sym e; out = q ∙ ap (λ (a : Answer ℕ). pageFrom a text before) (sym e) }
 

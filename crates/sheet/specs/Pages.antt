@@ -10,9 +10,9 @@ use Rattle.refusal.specs.Answer.{Answer, value, refused}
 use Rattle.day.specs.Listing.{Sheet}
 use Rattle.day.specs.Walk.{sheetOf}
 use Rattle.table.specs.Tables.{tableIn}
-use Rattle.sheet.specs.Promises.{writingOf}
+use Rattle.sheet.specs.Promises.{sheetWrittenOf}
 use Rattle.sheet.specs.Texts.{rowsText}
-use Rattle.sheet.specs.declared.Writing.{Writing}
+use Rattle.sheet.specs.declared.SheetWritten.{SheetWritten}
 
 -- the rows behind so many others; none where there are no more
 abbrev pub pageOfSheet : Sheet → ℕ → ℕ → List ℕ
@@ -36,6 +36,6 @@ pageFrom (value n) text before = sets before 0 text
 pageFrom (refused n f) text before = before
 
 -- `sheet::page_sound`, of the text of a page
-pub record Pages (text before : List ℕ) (x : Writing) (after : List ℕ) : Type 0 where
-  pub said : writingOf x ≡ pageAnswer text before
+pub record Pages (text before : List ℕ) (x : SheetWritten) (after : List ℕ) : Type 0 where
+  pub said : sheetWrittenOf x ≡ pageAnswer text before
   pub out : after ≡ pageFrom (pageAnswer text before) text before

@@ -9,17 +9,17 @@ use lib.Seq.{sets}
 use Rattle.refusal.specs.Answer.{Answer, value, refused, refusedBy}
 use Rattle.table.specs.Tables.{tableIn, sound}
 use Rattle.sheet.specs.Texts.{sheetText}
-use Rattle.sheet.specs.declared.Writing.{Writing}
-use Rattle.sheet.specs.declared.Writing.the-variants.{Done, Refused}
+use Rattle.sheet.specs.declared.SheetWritten.{SheetWritten}
+use Rattle.sheet.specs.declared.SheetWritten.the-variants.{Done, Refused}
 
 -- the text of a lent table
 abbrev pub textOf : List ℕ → List ℕ
 textOf s = sheetText (tableIn s)
 
 -- how many bytes were written, in the paper's terms
-abbrev pub writingOf : Writing → Answer ℕ
-writingOf (Done n) = value n
-writingOf (Refused x) = refusedBy x
+abbrev pub sheetWrittenOf : SheetWritten → Answer ℕ
+sheetWrittenOf (Done n) = value n
+sheetWrittenOf (Refused x) = refusedBy x
 
 -- 01, Order of checks: Sheet: 5, 4
 unfoldable pub sheetAnswer : List ℕ → List ℕ → Answer ℕ
@@ -32,6 +32,6 @@ sheetFrom (value n) s before = sets before 0 (textOf s)
 sheetFrom (refused n f) s before = before
 
 -- `sheet::write`: `after` is the lent buffer when it returns
-pub record Sheets (table before : List ℕ) (x : Writing) (after : List ℕ) : Type 0 where
-  pub said : writingOf x ≡ sheetAnswer table before
+pub record Sheets (table before : List ℕ) (x : SheetWritten) (after : List ℕ) : Type 0 where
+  pub said : sheetWrittenOf x ≡ sheetAnswer table before
   pub out : after ≡ sheetFrom (sheetAnswer table before) table before

@@ -20,7 +20,7 @@ use table::header;
 const ORDERS: usize = LIMIT as usize;
 
 // The answer: how many bytes were written.
-pub enum Writing {
+pub enum SheetWritten {
     Done(usize),
     Refused(Refusal),
 }
@@ -40,17 +40,17 @@ struct Stretch {
 }
 
 // Any bytes for a table, any buffer. On a refusal not one byte is changed.
-pub fn write(t: &[u8], out: &mut [u8]) -> Writing
+pub fn write(t: &[u8], out: &mut [u8]) -> SheetWritten
     ensures { λ x. ⌜ Sheets (now (t .entry)) (now (out .entry)) x (now (out .exit)) ⌝ }
 {
     if !damage::is_sound(t) {
-        return Writing::Refused(Refusal::Damaged);
+        return SheetWritten::Refused(Refusal::Damaged);
     }
     write_sound(t, out)
 }
 
 // For a caller that holds the table sound by proof: the same promise, and no damage check is paid.
-pub fn write_sound(t: &[u8], out: &mut [u8]) -> Writing
+pub fn write_sound(t: &[u8], out: &mut [u8]) -> SheetWritten
     requires { ⌜ sound (now t) ≡ true ⌝ }
     ensures { λ x. ⌜ Sheets (now (t .entry)) (now (out .entry)) x (now (out .exit)) ⌝ }
 {
@@ -58,21 +58,21 @@ pub fn write_sound(t: &[u8], out: &mut [u8]) -> Writing
     let families = walk::count_roots(t, n);
     let head = heading::length(n as u64, families);
     if out.len() < head {
-        return Writing::Refused(Refusal::NoRoom);
+        return SheetWritten::Refused(Refusal::NoRoom);
     }
     let mut kin = [0u16; ORDERS];
     kin::note_all(t, n, &mut kin);
     let first = walk::start(t, n);
     if !room::rows_fit(t, &kin, n, first, n, out.len() - head) {
-        return Writing::Refused(Refusal::NoRoom);
+        return SheetWritten::Refused(Refusal::NoRoom);
     }
     let wrote = heading::write(n as u64, families, out);
     let rows = family::rows(t, &kin, n, first, n, &mut out[wrote..]);
-    Writing::Done(wrote + rows)
+    SheetWritten::Done(wrote + rows)
 }
 
 // A page of the sheet without its heading: so many rows behind the first ones, which are passed over.
-pub fn page_sound(t: &[u8], passed: usize, most: usize, out: &mut [u8]) -> Writing
+pub fn page_sound(t: &[u8], passed: usize, most: usize, out: &mut [u8]) -> SheetWritten
     requires { ⌜ sound (now t) ≡ true ⌝ }
     ensures { λ x. ⌜ Pages (pageOf (now (t .entry)) passed most) (now (out .entry)) x (now (out .exit)) ⌝ }
 {
@@ -81,7 +81,7 @@ pub fn page_sound(t: &[u8], passed: usize, most: usize, out: &mut [u8]) -> Writi
     kin::note_all(t, n, &mut kin);
     let first = walk::skip(t, &kin, n, passed);
     if !room::rows_fit(t, &kin, n, first, most, out.len()) {
-        return Writing::Refused(Refusal::NoRoom);
+        return SheetWritten::Refused(Refusal::NoRoom);
     }
-    Writing::Done(family::rows(t, &kin, n, first, most, out))
+    SheetWritten::Done(family::rows(t, &kin, n, first, most, out))
 }

@@ -5,14 +5,14 @@ ghost use mathlib.Core.Bool.{true};
 ghost use lib.ListN.{length};
 ghost use Rattle.table.specs.Tables.{limitOf, sound};
 ghost use Rattle.feed.specs.Steps.{holdLength, longest, roomAtEnd};
-use chunk::Kept;
+use sheet_run::Kept;
 
 // The least room of a case; the most is all of the output.
 const LEAST: usize = 64;
 
 // All that the sheet program writes for the text. A case that answers false has printed nothing.
 pub fn feed_all(text: &[u8], sizes: &[u8], room: usize) -> bool {
-    let mut table = chunk::table_buffer();
+    let mut table = sheet_run::table_buffer();
     let mut hold = [0u8; feed::HOLD];
     let mut out = output();
     feed_good(text, sizes, room, &mut table, &mut hold, &mut out)
@@ -69,9 +69,9 @@ fn feed_in(text: &[u8], sizes: &[u8], room: usize, t: &mut [u8], hold: &mut [u8]
     requires { ⌜ length (now hold) ≡ holdLength ⌝ }
     requires { ⌜ roomAtEnd (limitOf (length (now t))) ≤ length (now out) ⌝ }
 {
-    chunk::begin(t);
+    sheet_run::begin(t);
     let kept = feed_chunks(text, sizes, t, hold, &mut out[0..room]);
-    chunk::end(t, hold, kept.held, kept.line, out);
+    sheet_run::end(t, hold, kept.held, kept.line, out);
 }
 
 // The sizes are taken in turn, and from the first again when they are used up. A write that fails shows where the output is compared.
@@ -91,7 +91,7 @@ fn feed_chunks(text: &[u8], sizes: &[u8], t: &mut [u8], hold: &mut [u8], out: &m
     };
     while at < text.len() {
         let n = chunk_length(sizes, turn, text.len() - at);
-        kept = chunk::take(&text[at..at + n], t, hold, kept.held, kept.line, out);
+        kept = sheet_run::take(&text[at..at + n], t, hold, kept.held, kept.line, out);
         at += n;
         turn = next_turn(turn, sizes.len() / 2);
     }

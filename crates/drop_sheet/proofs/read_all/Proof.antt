@@ -7,8 +7,8 @@ use borrow.Author.Tests.{not-false}
 use denote.Ref.{now}
 use lib.ListN.{length}
 use Rattle.feed.specs.Steps.{between}
-use Rattle.chunk.specs.Promises.{Reads}
-use Rattle.chunk.proofs.Leading.{gone, nothing-read, more-read, goes-on, unread}
+use Rattle.sheet_run.specs.Promises.{Reads}
+use Rattle.sheet_run.proofs.Leading.{gone, nothing-read, more-read, goes-on, unread}
 use Rattle.drop_sheet.proofs.read_all.Statement.{statement}
 use Rattle.drop_sheet.proofs.read_all.Tie as tie
 

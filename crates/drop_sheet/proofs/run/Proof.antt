@@ -4,7 +4,7 @@ use mathlib.Core.Bool.{false≢true}
 use borrow.Author.Needs.{needs}
 use borrow.Author.Tests.{not-false}
 use denote.Ref.{now}
-use Rattle.chunk.proofs.Leading.{room-kept, begun-sound, all-printed}
+use Rattle.sheet_run.proofs.Leading.{room-kept, begun-sound, all-printed}
 use Rattle.drop_sheet.proofs.run.Statement.{statement}
 use Rattle.drop_sheet.proofs.run.Tie as tie
 

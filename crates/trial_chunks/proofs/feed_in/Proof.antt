@@ -4,7 +4,7 @@ use mathlib.Core.Path.{_∙_}
 use borrow.Author.Needs.{needs}
 use borrow.Rule.Slice.PartMut.{same-len-mid}
 use denote.Ref.{now}
-use Rattle.chunk.proofs.Leading.{room-kept, begun-sound}
+use Rattle.sheet_run.proofs.Leading.{room-kept, begun-sound}
 use Rattle.trial_chunks.proofs.feed_in.Statement.{statement}
 use Rattle.trial_chunks.proofs.feed_in.Tie as tie
 

@@ -7,7 +7,7 @@ ghost use lib.ListN.{length};
 ghost use Rattle.table.specs.Tables.{leastLimit, limitOf, sound, tableLength};
 ghost use Rattle.book.specs.Bytes.{bytesAfter};
 ghost use Rattle.feed.specs.Steps.{between, heldIn, holdLength, longest, roomAtEnd};
-ghost use Rattle.chunk.specs.Promises.{Ends, Takes};
+ghost use Rattle.sheet_run.specs.Promises.{Ends, Takes};
 
 // What a chunk leaves for the next: how much is held, and the number of the piece to come; and whether all that was said is written out.
 pub struct Kept {

@@ -1,4 +1,4 @@
--- `chunk::take` meets its contract. Each step uses a byte or more of what is left of the chunk, so the turns end.
+-- `sheet_run::take` meets its contract. Each step uses a byte or more of what is left of the chunk, so the turns end.
 use Prim.Native.Nat.{_-_}
 use native.Mathlib.Omega.{arith}
 use mathlib.Core.Path.{_∙_}
@@ -6,9 +6,9 @@ use borrow.Author.Needs.{needs}
 use denote.Ref.{now}
 use lib.ListN.{length}
 use Rattle.feed.specs.Steps.{between, heldIn}
-use Rattle.chunk.proofs.Turns.{Turn, first-turn, one-step, next-turn, stopped, all-taken}
-use Rattle.chunk.proofs.take.Statement.{statement}
-use Rattle.chunk.proofs.take.Tie as tie
+use Rattle.sheet_run.proofs.Turns.{Turn, first-turn, one-step, next-turn, stopped, all-taken}
+use Rattle.sheet_run.proofs.take.Statement.{statement}
+use Rattle.sheet_run.proofs.take.Tie as tie
 
 abbrev Inv-loop : tie.InvT-loop
 Inv-loop chunk t₀ hold₀ held line out₀ used₀ kept₀ number₀ t hold out used kept number =

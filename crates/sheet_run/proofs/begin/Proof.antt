@@ -1,4 +1,4 @@
--- `chunk::begin`: a buffer whose length has a meaning is never refused.
+-- `sheet_run::begin`: a buffer whose length has a meaning is never refused.
 use Prim.Native.Nat.{ℕ, _<_}
 use mathlib.Core.Path.{_≡_, ap, _∙_}
 use mathlib.Core.List.{List, []}
@@ -10,8 +10,8 @@ use Rattle.table.specs.Tables.{limitOf, madeFrom}
 use Rattle.table.specs.declared.Made.{Made}
 use Rattle.table.proofs.Making.{taken}
 use Rattle.book.specs.Bytes.{bytesAfter}
-use Rattle.chunk.proofs.begin.Statement.{statement}
-use Rattle.chunk.proofs.begin.Tie as tie
+use Rattle.sheet_run.proofs.begin.Statement.{statement}
+use Rattle.sheet_run.proofs.begin.Tie as tie
 
 never-refused : (before : List ℕ) {x : Made} {after : List ℕ} → 0 < limitOf (length before) → Makes before x after → after ≡ bytesAfter before []
 never-refused before meant m = m .out ∙ ap (λ a. madeFrom a before) (taken before meant)

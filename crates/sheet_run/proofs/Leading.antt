@@ -15,8 +15,8 @@ use Rattle.feed.specs.Steps.{Between, between, finished, heldIn, holdLength, ro
 use Rattle.feed.specs.Whole.Calls.{none}
 use Rattle.feed.proofs.Finishing.{finished-most}
 use Rattle.feed.proofs.Whole.{whole}
-use Rattle.chunk.specs.Promises.{Leads, Takes, Reads, Ends, Prints}
-use Rattle.chunk.specs.declared.Kept.{Kept}
+use Rattle.sheet_run.specs.Promises.{Leads, Takes, Reads, Ends, Prints}
+use Rattle.sheet_run.specs.declared.Kept.{Kept}
 
 -- ---- texts
 

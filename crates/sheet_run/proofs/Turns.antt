@@ -1,4 +1,4 @@
--- What a turn of `chunk::take` keeps: the calls that go on with what is left of the chunk are calls with all of it.
+-- What a turn of `sheet_run::take` keeps: the calls that go on with what is left of the chunk are calls with all of it.
 use Prim.Native.Nat.{ℕ, _+_, _-_, _≤_, _<_}
 use native.Mathlib.Omega.{arith}
 use mathlib.Core.Path.{_≡_, refl, ap, subst, _∙_}
@@ -12,7 +12,7 @@ use Rattle.feed.specs.Whole.{Calls}
 use Rattle.feed.specs.Whole.Calls.{call}
 use Rattle.feed.specs.declared.Fed.{Fed}
 use Rattle.feed.proofs.Advancing.{Took, took}
-use Rattle.chunk.specs.Promises.{Takes}
+use Rattle.sheet_run.specs.Promises.{Takes}
 
 -- x is the state before the chunk, `first` and `before` the table and the output buffer as they were; the others are as they are at a turn
 pub record Turn (x : Between) (chunk first before t hold out : List ℕ) (used kept number : ℕ) : Type 0 where

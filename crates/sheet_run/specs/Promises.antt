@@ -8,7 +8,7 @@ use lib.Seq.{sets}
 use Rattle.table.specs.Tables.{sound}
 use Rattle.feed.specs.Steps.{Between, between, holdLength, lastTable, finished, heldIn}
 use Rattle.feed.specs.Whole.{Calls, start}
-use Rattle.chunk.specs.declared.Kept.{Kept}
+use Rattle.sheet_run.specs.declared.Kept.{Kept}
 
 -- 01, The sheet: "books each, .. as it comes": a text that leads from x to y, and what is said of it. Any calls that go on from y are calls from x
 -- with that text in front of theirs, and with `said` in front of what they write
@@ -16,7 +16,7 @@ pub record Leads (x : Between) (text : List ℕ) (y : Between) : Type 0 where
   pub said : List ℕ
   pub onward : {z : Between} {rest out : List ℕ} → Calls y rest z out → Calls x (text ++ rest) z (said ++ out)
 
--- `chunk::take`: the table and the hold are as they are afterwards. Where not all could be written, the run ends
+-- `sheet_run::take`: the table and the hold are as they are afterwards. Where not all could be written, the run ends
 pub record Takes (x : Between) (chunk : List ℕ) (r : Kept) (table hold : List ℕ) : Type 0 where
   pub leads : r .good ≡ true → Leads x chunk (between (heldIn hold (r .held)) (r .line) table)
   pub few : r .held ≤ holdLength
@@ -28,7 +28,7 @@ pub record Reads (x : Between) (r : Kept) (table hold : List ℕ) : Type 0 where
   pub text : List ℕ
   pub takes : Takes x text r table hold
 
--- 01, The sheet: "and at the end the sheet". `chunk::end`: `before` is the output buffer as it was
+-- 01, The sheet: "and at the end the sheet". `sheet_run::end`: `before` is the output buffer as it was
 pub record Ends (x : Between) (before table out : List ℕ) : Type 0 where
   pub booked : table ≡ lastTable x
   pub written : out ≡ sets before 0 (finished x)

@@ -1,4 +1,4 @@
--- `chunk::end` meets its contract: what the end of the text says has room.
+-- `sheet_run::end` meets its contract: what the end of the text says has room.
 use Prim.Native.Nat.{ℕ, _≤_}
 use native.Mathlib.Omega.{arith}
 use mathlib.Core.Path.{_≡_, ap}
@@ -12,8 +12,8 @@ use Rattle.table.specs.Tables.{limitOf, sound}
 use Rattle.row.specs.Writes.{Wrote}
 use Rattle.feed.specs.Steps.{between, finished, heldIn, roomAtEnd}
 use Rattle.feed.proofs.Finishing.{finished-most}
-use Rattle.chunk.proofs.end.Statement.{statement}
-use Rattle.chunk.proofs.end.Tie as tie
+use Rattle.sheet_run.proofs.end.Statement.{statement}
+use Rattle.sheet_run.proofs.end.Tie as tie
 
 written-inside : (held : List ℕ) (l : ℕ) (t before : List ℕ) {out : List ℕ} {n : ℕ} → sound t ≡ true → roomAtEnd (limitOf (length t)) ≤ length before
     → Wrote (finished (between held l t)) before out n → n ≤ length out
