@@ -12,6 +12,7 @@ use Rattle.run.specs.Runs.{part, all, isZero, member}
 use Rattle.message.specs.Fields.{Field, placed, width}
 use Rattle.cell.specs.Cells.{le, leBytes}
 use Rattle.run.proofs.Tests.{both, either, neither}
+use Rattle.run.proofs.All.{all-take, all-drop}
 use Rattle.run.proofs.Parts.{length-part, part-part}
 use Rattle.cell.proofs.Laws.{le-read}
 use Rattle.layout.specs.Demand2.{LawfulRecord}
@@ -46,16 +47,6 @@ same-fields n at (r ∷ rs) x y p h k (e also s) =
     split x at (r .len) ∙ ap₂ (λ (f g : List ℕ). f ++ g) (rw here at e) rest ∙ sym (split y at (r .len))
 
 -- ---- a number and the zeros behind it
-
-all-take : (p : ℕ → Bool) (s : List ℕ) (w : ℕ) → all p s ≡ true → all p (take w s) ≡ true
-all-take p s zero e = refl
-all-take p [] (suc w) e = refl
-all-take p (b ∷ s) (suc w) e = let h = both (p b) (all p s) e in rw (h .0) (all-take p s w (h .1))
-
-all-drop : (p : ℕ → Bool) (s : List ℕ) (w : ℕ) → all p s ≡ true → all p (drop w s) ≡ true
-all-drop p s zero e = e
-all-drop p [] (suc w) e = refl
-all-drop p (b ∷ s) (suc w) e = all-drop p s w (both (p b) (all p s) e .1)
 
 no-number : (s : List ℕ) (m : ℕ) → length s ≤ m → all isZero (take m s) ≡ true → le s ≡ 0
 no-number [] m h e = refl

@@ -18,7 +18,7 @@ use Rattle.field.specs.declared.Class.the-variants.{Printable, Space, Digit, He
 use Rattle.field.specs.declared.Number.{Number}
 use Rattle.field.specs.declared.Number.the-variants.{Value as Number·Value, Bad}
 use Rattle.run.proofs.Tests.{both, either}
-use Rattle.run.proofs.All.{all-append, all-wider}
+use Rattle.run.proofs.All.{all-append, all-snoc, all-wider}
 use Rattle.field.proofs.Fill.{between, is-between}
 use Rattle.field.proofs.Laws.{within-value, length-filled, length-price, digits-read, digits-write, spaced-back, spaced-write, price-read, price-write}
 use Rattle.message.specs.Rule.{Kind, text, textOrBlank, blank, digitsOrBlank, hex, isKind, Rule, number, digits, price, code, verbatim}
@@ -133,18 +133,15 @@ digit-printable : (fill v : ℕ) (t : Bool) → isOf Printable fill ≡ true →
 digit-printable fill v true h = h
 digit-printable fill v false h = is-between 32 126 (48 + v % 10) (omega arith) (omega arith)
 
-snoc-printable : (s : List ℕ) (b : ℕ) → all (isOf Printable) s ≡ true → isOf Printable b ≡ true → all (isOf Printable) (s ++ (b ∷ [])) ≡ true
-snoc-printable s b h k = all-append (isOf Printable) s (b ∷ []) h (rw k)
-
 rest-printable : (fill w v : ℕ) → isOf Printable fill ≡ true → all (isOf Printable) (rest fill w v) ≡ true
 rest-printable fill zero v h = refl
 rest-printable fill (suc w) v h =
-    snoc-printable (rest fill w (v / 10)) (cond (eqb v 0) fill (48 + v % 10)) (rest-printable fill w (v / 10) h) (digit-printable fill v (eqb v 0) h)
+    all-snoc (isOf Printable) (rest fill w (v / 10)) (cond (eqb v 0) fill (48 + v % 10)) (rest-printable fill w (v / 10) h) (digit-printable fill v (eqb v 0) h)
 
 filled-printable : (fill w v : ℕ) → isOf Printable fill ≡ true → all (isOf Printable) (filled fill w v) ≡ true
 filled-printable fill zero v h = refl
 filled-printable fill (suc w) v h =
-    snoc-printable (rest fill w (v / 10)) (48 + v % 10) (rest-printable fill w (v / 10) h) (digit-printable fill v false h)
+    all-snoc (isOf Printable) (rest fill w (v / 10)) (48 + v % 10) (rest-printable fill w (v / 10) h) (digit-printable fill v false h)
 
 code-printable : (codes b : List ℕ) → all (isOf Printable) codes ≡ true → isCode codes b ≡ true → all (isOf Printable) b ≡ true
 code-printable codes [] h e = refl

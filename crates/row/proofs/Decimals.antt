@@ -14,6 +14,7 @@ use Rattle.field.specs.Number.{spaced, rest, filled}
 use Rattle.field.specs.declared.Class.the-variants.{Digit}
 use Rattle.field.specs.declared.Number.the-variants.{Value}
 use Rattle.run.proofs.Tests.{both}
+use Rattle.run.proofs.All.{all-snoc}
 use Rattle.field.proofs.Fill.{FillWritten, is-between, length-snoc, snoc-written}
 use Rattle.field.proofs.Laws.{spaced-read}
 use Rattle.row.specs.Texts.{decimalIn, decimal}
@@ -123,10 +124,6 @@ decimal-one n m h k e = let v : Value n ≡ Value m = sym (decimal-value n h) �
 is-digit : (d : ℕ) → d ≤ 9 → isOf Digit (48 + d) ≡ true
 is-digit d h = is-between 48 57 (48 + d) (omega arith) (omega arith)
 
-all-snoc : (s : List ℕ) (b : ℕ) → all (isOf Digit) s ≡ true → isOf Digit b ≡ true → all (isOf Digit) (s ++ (b ∷ [])) ≡ true
-all-snoc [] b p q = rw q
-all-snoc (a ∷ s) b p q = let h = both (isOf Digit a) (all (isOf Digit) s) p in rw (h .0) (all-snoc s b (h .1) q)
-
 digits-only : (w n : ℕ) → all (isOf Digit) (decimalIn w n) ≡ true
 digits-only zero n = refl
 digits-only (suc w) n = go (ltb n 10) refl (digits-only w (n / 10))
@@ -134,7 +131,7 @@ digits-only (suc w) n = go (ltb n 10) refl (digits-only w (n / 10))
     go : (t : Bool) → ltb n 10 ≡ t → all (isOf Digit) (decimalIn w (n / 10)) ≡ true
         → all (isOf Digit) (cond t ((48 + n) ∷ []) (decimalIn w (n / 10) ++ ((48 + n % 10) ∷ []))) ≡ true
     go true e h = let k = ltb-true n 10 e in rw (is-digit n (omega arith))
-    go false e h = all-snoc (decimalIn w (n / 10)) (48 + n % 10) h (is-digit (n % 10) (omega arith))
+    go false e h = all-snoc (isOf Digit) (decimalIn w (n / 10)) (48 + n % 10) h (is-digit (n % 10) (omega arith))
 
 pub decimal-unfilled : (n : ℕ) → all (isOf Digit) (decimal n) ≡ true
 decimal-unfilled n = digits-only 20 n

@@ -1,14 +1,28 @@
 -- What all bytes of a run are.
-use Prim.Native.Nat.{ℕ}
+use Prim.Native.Nat.{ℕ, zero, suc}
 use mathlib.Core.Path.{_≡_, refl}
 use mathlib.Core.Bool.{Bool, true}
 use mathlib.Core.List.{List, [], _∷_, _++_}
+use lib.ListN.{take, drop}
 use Rattle.run.specs.Runs.{all}
 use Rattle.run.proofs.Tests.{both}
 
 pub all-append : (p : ℕ → Bool) (s t : List ℕ) → all p s ≡ true → all p t ≡ true → all p (s ++ t) ≡ true
 all-append p [] t h k = k
 all-append p (b ∷ s) t h k = let d = both (p b) (all p s) h in rw (d .0) (all-append p s t (d .1) k)
+
+pub all-snoc : (p : ℕ → Bool) (s : List ℕ) (b : ℕ) → all p s ≡ true → p b ≡ true → all p (s ++ (b ∷ [])) ≡ true
+all-snoc p s b h k = all-append p s (b ∷ []) h (rw k)
+
+pub all-take : (p : ℕ → Bool) (s : List ℕ) (w : ℕ) → all p s ≡ true → all p (take w s) ≡ true
+all-take p s zero e = refl
+all-take p [] (suc w) e = refl
+all-take p (b ∷ s) (suc w) e = let h = both (p b) (all p s) e in rw (h .0) (all-take p s w (h .1))
+
+pub all-drop : (p : ℕ → Bool) (s : List ℕ) (w : ℕ) → all p s ≡ true → all p (drop w s) ≡ true
+all-drop p s zero e = e
+all-drop p [] (suc w) e = refl
+all-drop p (b ∷ s) (suc w) e = all-drop p s w (both (p b) (all p s) e .1)
 
 -- a test that passes more
 pub all-wider : (p q : ℕ → Bool) → ((b : ℕ) → p b ≡ true → q b ≡ true) → (s : List ℕ) → all p s ≡ true → all q s ≡ true

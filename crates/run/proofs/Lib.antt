@@ -2,7 +2,7 @@
 pub mod Tests
 -- What a loop over a run keeps
 pub mod Scan
--- All bytes of runs joined, and of a wider test
+-- All bytes of runs joined and cut, and of a wider test
 pub mod All
 -- A part before, after and inside a run of stores
 pub mod Parts

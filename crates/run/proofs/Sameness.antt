@@ -1,8 +1,8 @@
 -- Runs that are the same.
 use Prim.Native.Nat.{ℕ, _+_, _≤_, _<_}
 use native.Mathlib.Nat.{le-of-eq}
-use mathlib.Core.Path.{_≡_, refl, ap, ap₂}
-use mathlib.Core.Bool.{true, _&&_, false≢true}
+use mathlib.Core.Path.{_≡_, refl, sym, ap, ap₂, _∙_}
+use mathlib.Core.Bool.{Bool, true, _&&_, and-assoc, and-true, false≢true}
 use mathlib.Core.List.{List, [], _∷_}
 use borrow.Author.Tests.{eqb-true, eq-eqb}
 use lib.Dec.{eqb}
@@ -31,10 +31,14 @@ same-whole s t e = ap (λ l. same l t) (take-all (length t) s (le-of-eq e))
 
 -- ---- what is left to compare of a part and a run
 
-pub same-next : (l t : List ℕ) (at i : ℕ) → at + length t ≤ length l → i < length t
-    → same (drop i (part l at (length t))) (drop i t)
-    ≡ (eqb (getD l (at + i) 0) (getD t i 0) && same (drop (i + 1) (part l at (length t))) (drop (i + 1) t))
-same-next l t at i h k = rw (part-next l at (length t) i h k, at-next t i k)
+module _ (l t : List ℕ) (at i : ℕ) where
+  abbrev rest : ℕ → Bool
+  rest j = same (drop j (part l at (length t))) (drop j t)
 
-pub same-end : (l t : List ℕ) (at i : ℕ) → length t ≤ i → same (drop i (part l at (length t))) (drop i t) ≡ true
-same-end l t at i h = rw (part-end l at (length t) i h, drop-of-length-le t h)
+  pub same-next : (x good : Bool) → at + length t ≤ length l → i < length t → x ≡ (good && rest i)
+      → x ≡ ((good && eqb (getD l (at + i) 0) (getD t i 0)) && rest (i + 1))
+  same-next x good h k e =
+      e ∙ rw (part-next l at (length t) i h k, at-next t i k) (sym (and-assoc good (eqb (getD l (at + i) 0) (getD t i 0)) (rest (i + 1))))
+
+  pub same-end : (x good : Bool) → length t ≤ i → x ≡ (good && rest i) → x ≡ good
+  same-end x good h e = e ∙ rw (part-end l at (length t) i h, drop-of-length-le t h) (and-true good)

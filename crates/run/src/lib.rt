@@ -45,19 +45,18 @@ pub fn member(b: u8, s: &[u8]) -> bool
     found
 }
 
-// Whether the bytes from an offset on are those of a run. An early exit, since a search asks at many places and most differ.
+// Whether the bytes from an offset on are those of a run. No early exit, so that it is vectorised.
 pub fn same_at(s: &[u8], at: usize, other: &[u8]) -> bool
     requires { ⌜ at + length (now other) ≤ length (now s) ⌝ }
     ensures { λ r. ⌜ r ≡ Runs·same (part (now (s .entry)) at (length (now (other .entry)))) (now (other .entry)) ⌝ }
 {
+    let mut good = true;
     let mut i = 0;
     while i < other.len() {
-        if s[at + i] != other[i] {
-            return false;
-        }
+        good = good & (s[at + i] == other[i]);
         i += 1;
     }
-    true
+    good
 }
 
 // Whether two runs of one length are the same.
