@@ -1,11 +1,12 @@
 -- What a reader's tests say of its answer, over plain variables: one law for each way out.
 use Prim.Native.Nat.{ℕ, _+_, _-_, _*_, _≤_, _<_, _^_}
 use mathlib.Core.Path.{_≡_, refl, sym, ap, ap₂, _∙_}
-use mathlib.Core.Bool.{Bool, true, false, _||_, and-false}
+use mathlib.Core.Bool.{Bool, true, false, not, _||_, and-true, and-false}
 use mathlib.Core.List.{List, [], _∷_}
 use native.Mathlib.Omega.{arith}
 use native.Mathlib.Nat.{le-of-eq, le-refl, sub-zero, lt-of-lt-of-le}
 use lib.ListN.{length, getD, take, drop, length-drop, length-take, drop-of-length-le}
+use lib.Dec.{eqb}
 use lib.Seq.{take-all}
 use borrow.Author.Tests.{le-leb, lt-leb, ne-eqb}
 use Rattle.run.specs.Runs.{all, member}
@@ -40,6 +41,10 @@ led-by-space (b ∷ s) h = rw h
 pub led-by-text : (s : List ℕ) (b : Bool) → b ≡ all (isOf Printable) s → (length s ≡ 0 → ⊥) → (getD s 0 0 ≡ 32 → ⊥) → lawfulIf b ≡ lawfulIf (isText s)
 led-by-text [] b e h k = absurd (h refl)
 led-by-text (a ∷ s) b e h k = rw (e, ne-eqb a 32 k)
+
+pub led-by-printable : (s : List ℕ) → all (isOf Printable) s ≡ true → (length s ≡ 0 → ⊥) → lawfulIf (not (eqb (getD s 0 0) 32)) ≡ lawfulIf (isText s)
+led-by-printable [] e h = absurd (h refl)
+led-by-printable (a ∷ s) e h = rw (e, and-true)
 
 pub first-kind : (a b : Bool) → a ≡ true → Lawful ≡ lawfulIf (a || b)
 first-kind a b e = rw e

@@ -4,6 +4,8 @@ ghost use Rattle.run.specs.Runs.{all};
 ghost use Rattle.field.specs.Byte.{isOf};
 ghost use Rattle.field.specs.Verbatim.{isText, isBlank, isTextOrBlank, isDigitsOrBlank, isHex, isCode};
 ghost use Rattle.field.specs.Verbatim.{lawfulIf};
+ghost use mathlib.Core.Bool.{true};
+ghost use Rattle.field.specs.declared.Class.the-variants.{Printable};
 use crate::Bytes;
 use crate::Class;
 
@@ -47,6 +49,17 @@ pub fn text(s: &[u8]) -> Bytes
         return Bytes::Unlawful;
     }
     lawful_if(all_of(s, Class::Printable))
+}
+
+// A text among bytes that are known to be printable: only its first byte is left to test.
+pub fn text_in(s: &[u8]) -> Bytes
+    requires { ⌜ all (isOf Printable) (now s) ≡ true ⌝ }
+    ensures { λ r. ⌜ r ≡ lawfulIf (isText (now (s .entry))) ⌝ }
+{
+    if s.len() == 0 {
+        return Bytes::Unlawful;
+    }
+    lawful_if(s[0] != 32)
 }
 
 pub fn blank(s: &[u8]) -> Bytes

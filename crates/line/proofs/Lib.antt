@@ -1,5 +1,7 @@
 -- What a field's answer, and that of a group of fields, makes of the reading
 pub mod Steps
+-- The fields of a printable line are printable
+pub mod Printable
 -- The 24 fields that keep their rules say the record
 pub mod Whole
 -- A strike's unit, and how a code writes a value

@@ -1,8 +1,9 @@
 // Reading a piece. The fields are read a group at a time: a chain of all 24 is more than the prover takes at once.
 ghost use mathlib.Core.Path.{_≡_};
+ghost use mathlib.Core.Bool.{true};
 ghost use lib.ListN.{length};
 ghost use Rattle.run.specs.Runs.{same};
-ghost use Rattle.layout.specs.Line.{crlf};
+ghost use Rattle.layout.specs.Line.{crlf, printable};
 ghost use Rattle.line.specs.Groups.{Says, noNumbers, readingBy, readingFrom, refusedReading, withContracts, withIds, withNone, withSeries, withTimestamp};
 ghost use Rattle.line.specs.Promises.{Read, blankRecord};
 use crate::Group;
@@ -90,6 +91,7 @@ fn refused(x: Refusal) -> Reading
 // The reading of a line by its fields.
 fn by_fields(s: &[u8]) -> Reading
     requires { ⌜ length (now s) ≡ 140 ⌝ }
+    requires { ⌜ printable (now s) ≡ true ⌝ }
     ensures { λ r. ⌜ r ≡ readingFrom 0 noNumbers (now (s .entry)) ⌝ }
 {
     match numbers(s) {
@@ -105,6 +107,7 @@ fn by_fields(s: &[u8]) -> Reading
 // that it is not inlined and its answer goes through memory.
 fn numbers(s: &[u8]) -> Group
     requires { ⌜ length (now s) ≡ 140 ⌝ }
+    requires { ⌜ printable (now s) ≡ true ⌝ }
     ensures { λ r. ⌜ readingBy (now (s .entry)) r ≡ readingFrom 0 noNumbers (now (s .entry)) ⌝ }
 {
     let event = event_fields(s);
@@ -157,6 +160,7 @@ fn no_numbers() -> Numbers
 // Fields 1 to 6.
 fn event_fields(s: &[u8]) -> Group
     requires { ⌜ length (now s) ≡ 140 ⌝ }
+    requires { ⌜ printable (now s) ≡ true ⌝ }
     ensures { λ r. ⌜ Says 0 6 withTimestamp (now (s .entry)) r ⌝ }
 {
     let Number::Value(timestamp) = digits::number(&s[0..8], 0, layout::LAST_TIMESTAMP) else {
@@ -165,7 +169,7 @@ fn event_fields(s: &[u8]) -> Group
     let Bytes::Lawful = verbatim::code(&s[8..9], &layout::TYPES) else {
         return Group::Refused(Refusal::Field(2));
     };
-    let Bytes::Lawful = verbatim::text(&s[9..13]) else {
+    let Bytes::Lawful = verbatim::text_in(&s[9..13]) else {
         return Group::Refused(Refusal::Field(3));
     };
     let Bytes::Lawful = verbatim::code(&s[13..14], &layout::CAPACITIES) else {
@@ -185,6 +189,7 @@ fn event_fields(s: &[u8]) -> Group
 // Fields 7 to 12.
 fn account_fields(s: &[u8]) -> Group
     requires { ⌜ length (now s) ≡ 140 ⌝ }
+    requires { ⌜ printable (now s) ≡ true ⌝ }
     ensures { λ r. ⌜ Says 6 12 withNone (now (s .entry)) r ⌝ }
 {
     let Bytes::Lawful = verbatim::text_or_blank(&s[16..20]) else {
@@ -196,10 +201,10 @@ fn account_fields(s: &[u8]) -> Group
     let Bytes::Lawful = verbatim::digits_or_blank(&s[25..30]) else {
         return Group::Refused(Refusal::Field(9));
     };
-    let Bytes::Lawful = verbatim::text(&s[30..36]) else {
+    let Bytes::Lawful = verbatim::text_in(&s[30..36]) else {
         return Group::Refused(Refusal::Field(10));
     };
-    let Bytes::Lawful = verbatim::text(&s[36..56]) else {
+    let Bytes::Lawful = verbatim::text_in(&s[36..56]) else {
         return Group::Refused(Refusal::Field(11));
     };
     let Bytes::Lawful = layout::replaced(&s[56..76], layout::is_replace(s[8])) else {
@@ -211,6 +216,7 @@ fn account_fields(s: &[u8]) -> Group
 // Fields 13 to 17.
 fn order_fields(s: &[u8]) -> Group
     requires { ⌜ length (now s) ≡ 140 ⌝ }
+    requires { ⌜ printable (now s) ≡ true ⌝ }
     ensures { λ r. ⌜ Says 12 17 withContracts (now (s .entry)) r ⌝ }
 {
     let Bytes::Lawful = verbatim::hex(&s[76..85]) else {
@@ -226,7 +232,7 @@ fn order_fields(s: &[u8]) -> Group
     ) else {
         return Group::Refused(Refusal::Field(15));
     };
-    let Bytes::Lawful = verbatim::text(&s[92..98]) else {
+    let Bytes::Lawful = verbatim::text_in(&s[92..98]) else {
         return Group::Refused(Refusal::Field(16));
     };
     let Bytes::Lawful = verbatim::code(&s[98..99], &layout::MONTHS) else {

@@ -12,6 +12,7 @@ use Rattle.message.specs.Rule.{verbatim, text, textOrBlank, digitsOrBlank}
 use Rattle.layout.specs.declared.Numbers.{Numbers}
 use Rattle.line.specs.declared.Reading.{Reading}
 use Rattle.line.specs.Groups.{readingFrom}
+use Rattle.line.proofs.Printable.{printable-field}
 use Rattle.line.proofs.Steps.{past, stops, kind-good, kind-bad}
 use Rattle.layout.specs.ByType.{bytesOn}
 use Rattle.layout.proofs.ByType.{kind-on-good, on-bad}
@@ -51,7 +52,7 @@ past-10 : (c : tie.After-enum-told7) (n : Numbers) (x : Reading) → x ≡ readi
 past-10 c n x e =
     let s = piece-10 c in
     past-9 (c .before .before .before .before) n x
-    (past 9 n s x (lit< tt) (kind-good text (part s 30 6) _ (c .before .before .text .ensures) (c .enum-told7 .given .1)) e)
+    (past 9 n s x (lit< tt) (kind-good text (part s 30 6) _ (c .before .before .text-in .ensures) (c .enum-told7 .given .1)) e)
 
 abbrev piece-11 : tie.After-enum-told9 → List ℕ
 piece-11 c = piece-10 (c .before .before .before .before)
@@ -60,7 +61,7 @@ past-11 : (c : tie.After-enum-told9) (n : Numbers) (x : Reading) → x ≡ readi
 past-11 c n x e =
     let s = piece-11 c in
     past-10 (c .before .before .before .before) n x
-    (past 10 n s x (lit< tt) (kind-good text (part s 36 20) _ (c .before .before .text2 .ensures) (c .enum-told9 .given .1)) e)
+    (past 10 n s x (lit< tt) (kind-good text (part s 36 20) _ (c .before .before .text-in2 .ensures) (c .enum-told9 .given .1)) e)
 
 abbrev piece-12 : tie.After-enum-told11 → List ℕ
 piece-12 c = piece-11 (c .before .before .before .before .before .before)
@@ -140,17 +141,17 @@ returns-3 c n =
     let s = piece-8 (c .before .before .before .before) in
     past-8 (c .before .before .before .before) n _ (stops 8 n s _ (lit< tt) (kind-bad digitsOrBlank (part s 25 5) _ (c .before .before .digits-or-blank2 .ensures) (c .enum-told6 .given .1)) refl)
 
-sub-text : tie.Need-sub-text
-sub-text c = search needs
+sub-text-in : tie.Need-sub-text-in
+sub-text-in c = search needs
 
-part-text-start : tie.Need-part-text-start
-part-text-start c = search needs
+part-text-in-start : tie.Need-part-text-in-start
+part-text-in-start c = search needs
 
-part-text-end : tie.Need-part-text-end
-part-text-end c = search needs
+part-text-in-end : tie.Need-part-text-in-end
+part-text-in-end c = search needs
 
-text-requires : tie.Need-text-requires
-text-requires c κs = search needs
+text-in-requires : tie.Need-text-in-requires
+text-in-requires c κs = let start = c .before .before .before .before .before .before .before .before .before .before .before .before .before .before in printable-field (now (start .args .s)) 30 6 (lit< tt) (start .pre .1)
 
 enum-told-7 : tie.Need-enum-told-7
 enum-told-7 c = search needs
@@ -161,19 +162,19 @@ enum-told-8 c = search needs
 returns-4 : tie.Need-returns-4
 returns-4 c n =
     let s = piece-9 (c .before .before .before .before) in
-    past-9 (c .before .before .before .before) n _ (stops 9 n s _ (lit< tt) (kind-bad text (part s 30 6) _ (c .before .before .text .ensures) (c .enum-told8 .given .1)) refl)
+    past-9 (c .before .before .before .before) n _ (stops 9 n s _ (lit< tt) (kind-bad text (part s 30 6) _ (c .before .before .text-in .ensures) (c .enum-told8 .given .1)) refl)
 
-sub-text-2 : tie.Need-sub-text-2
-sub-text-2 c = search needs
+sub-text-in-2 : tie.Need-sub-text-in-2
+sub-text-in-2 c = search needs
 
-part-text-start-2 : tie.Need-part-text-start-2
-part-text-start-2 c = search needs
+part-text-in-start-2 : tie.Need-part-text-in-start-2
+part-text-in-start-2 c = search needs
 
-part-text-end-2 : tie.Need-part-text-end-2
-part-text-end-2 c = search needs
+part-text-in-end-2 : tie.Need-part-text-in-end-2
+part-text-in-end-2 c = search needs
 
-text-requires-2 : tie.Need-text-requires-2
-text-requires-2 c κs = search needs
+text-in-requires-2 : tie.Need-text-in-requires-2
+text-in-requires-2 c κs = let start = c .before .before .before .before .before .before .before .before .before .before .before .before .before .before .before .before .before .before in printable-field (now (start .args .s)) 36 20 (lit< tt) (start .pre .1)
 
 enum-told-9 : tie.Need-enum-told-9
 enum-told-9 c = search needs
@@ -184,7 +185,7 @@ enum-told-10 c = search needs
 returns-5 : tie.Need-returns-5
 returns-5 c n =
     let s = piece-10 (c .before .before .before .before) in
-    past-10 (c .before .before .before .before) n _ (stops 10 n s _ (lit< tt) (kind-bad text (part s 36 20) _ (c .before .before .text2 .ensures) (c .enum-told10 .given .1)) refl)
+    past-10 (c .before .before .before .before) n _ (stops 10 n s _ (lit< tt) (kind-bad text (part s 36 20) _ (c .before .before .text-in2 .ensures) (c .enum-told10 .given .1)) refl)
 
 sub-replaced : tie.Need-sub-replaced
 sub-replaced c = search needs
@@ -246,17 +247,17 @@ account-fields-spec =
     enum-told-5
     enum-told-6
     returns-3
-    sub-text
-    part-text-start
-    part-text-end
-    text-requires
+    sub-text-in
+    part-text-in-start
+    part-text-in-end
+    text-in-requires
     enum-told-7
     enum-told-8
     returns-4
-    sub-text-2
-    part-text-start-2
-    part-text-end-2
-    text-requires-2
+    sub-text-in-2
+    part-text-in-start-2
+    part-text-in-end-2
+    text-in-requires-2
     enum-told-9
     enum-told-10
     returns-5

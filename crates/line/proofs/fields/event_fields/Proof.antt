@@ -16,6 +16,7 @@ use Rattle.field.specs.Number.{number as readNumber}
 use Rattle.message.specs.Rule.{number, code, text}
 use Rattle.layout.specs.declared.Numbers.{Numbers}
 use Rattle.line.specs.declared.Reading.{Reading}
+use Rattle.line.proofs.Printable.{printable-field}
 use Rattle.line.proofs.Steps.{timestampSaid, past, stops, kind-good, kind-bad, code-good, code-bad, value-good, value-bad}
 use Rattle.layout.proofs.ByType.{code-on-good, on-bad}
 use Rattle.line.proofs.fields.event_fields.Statement.{statement}
@@ -54,7 +55,7 @@ past-3 : (c : tie.After-enum-told4) (n : Numbers) (x : Reading) → x ≡ readin
 past-3 c n x e =
     let s = piece-3 c in
     past-2 (c .before .before .before .before) n x
-    (past 2 (numbers-3 c n) s x (lit< tt) (kind-good text (part s 9 4) _ (c .before .before .text .ensures) (c .enum-told4 .given .1)) e)
+    (past 2 (numbers-3 c n) s x (lit< tt) (kind-good text (part s 9 4) _ (c .before .before .text-in .ensures) (c .enum-told4 .given .1)) e)
 
 abbrev piece-4 : tie.After-enum-told6 → List ℕ
 piece-4 c = piece-3 (c .before .before .before .before .before)
@@ -142,17 +143,17 @@ returns-2 c n =
     let m = numbers-1 (c .before .before .before .before .before) n in
     past-1 (c .before .before .before .before .before) n _ (stops 1 m s _ (lit< tt) (code-bad types (part s 8 1) _ (c .before .before .code .ensures) (c .enum-told3 .given .1)) refl)
 
-sub-text : tie.Need-sub-text
-sub-text c = search needs
+sub-text-in : tie.Need-sub-text-in
+sub-text-in c = search needs
 
-part-text-start : tie.Need-part-text-start
-part-text-start c = search needs
+part-text-in-start : tie.Need-part-text-in-start
+part-text-in-start c = search needs
 
-part-text-end : tie.Need-part-text-end
-part-text-end c = search needs
+part-text-in-end : tie.Need-part-text-in-end
+part-text-in-end c = search needs
 
-text-requires : tie.Need-text-requires
-text-requires c κs = search needs
+text-in-requires : tie.Need-text-in-requires
+text-in-requires c κs = let start = c .before .before .before .before .before .before .before .before .before .before .before .before in printable-field (now (start .args .s)) 9 4 (lit< tt) (start .pre .1)
 
 enum-told-4 : tie.Need-enum-told-4
 enum-told-4 c = search needs
@@ -164,7 +165,7 @@ returns-3 : tie.Need-returns-3
 returns-3 c n =
     let s = piece-2 (c .before .before .before .before) in
     let m = numbers-2 (c .before .before .before .before) n in
-    past-2 (c .before .before .before .before) n _ (stops 2 m s _ (lit< tt) (kind-bad text (part s 9 4) _ (c .before .before .text .ensures) (c .enum-told5 .given .1)) refl)
+    past-2 (c .before .before .before .before) n _ (stops 2 m s _ (lit< tt) (kind-bad text (part s 9 4) _ (c .before .before .text-in .ensures) (c .enum-told5 .given .1)) refl)
 
 sub-code-2 : tie.Need-sub-code-2
 sub-code-2 c = search needs
@@ -275,10 +276,10 @@ event-fields-spec =
     enum-told-2
     enum-told-3
     returns-2
-    sub-text
-    part-text-start
-    part-text-end
-    text-requires
+    sub-text-in
+    part-text-in-start
+    part-text-in-end
+    text-in-requires
     enum-told-4
     enum-told-5
     returns-3

@@ -12,6 +12,7 @@ use Rattle.message.specs.Rule.{number, code, text, hex}
 use Rattle.layout.specs.declared.Numbers.{Numbers}
 use Rattle.line.specs.declared.Reading.{Reading}
 use Rattle.line.specs.Groups.{readingFrom, withContracts}
+use Rattle.line.proofs.Printable.{printable-field}
 use Rattle.line.proofs.Steps.{contractsSaid, past, stops, kind-good, kind-bad, code-good, code-bad, value-good, value-bad}
 use Rattle.line.proofs.fields.order_fields.Statement.{statement}
 use Rattle.line.proofs.fields.order_fields.Tie as tie
@@ -55,7 +56,7 @@ past-16 : (c : tie.After-enum-told6) (n : Numbers) (x : Reading) → x ≡ readi
 past-16 c n x e =
     let s = piece-16 c in
     past-15 (c .before .before .before .before) n x
-    (past 15 (numbers-16 c n) s x (lit< tt) (kind-good text (part s 92 6) _ (c .before .before .text .ensures) (c .enum-told6 .given .1)) e)
+    (past 15 (numbers-16 c n) s x (lit< tt) (kind-good text (part s 92 6) _ (c .before .before .text-in .ensures) (c .enum-told6 .given .1)) e)
 
 abbrev piece-17 : tie.After-enum-told8 → List ℕ
 piece-17 c = piece-16 (c .before .before .before .before .before)
@@ -141,17 +142,17 @@ returns-3 c n =
     let s = piece-14 (c .before .before .before .before) in
     past-14 (c .before .before .before .before) n _ (stops 14 n s _ (lit< tt) (value-bad (readNumber 1 999999 (part s 86 6)) _ (c .before .before .number .ensures) (c .enum-told5 .given .1)) refl)
 
-sub-text : tie.Need-sub-text
-sub-text c = search needs
+sub-text-in : tie.Need-sub-text-in
+sub-text-in c = search needs
 
-part-text-start : tie.Need-part-text-start
-part-text-start c = search needs
+part-text-in-start : tie.Need-part-text-in-start
+part-text-in-start c = search needs
 
-part-text-end : tie.Need-part-text-end
-part-text-end c = search needs
+part-text-in-end : tie.Need-part-text-in-end
+part-text-in-end c = search needs
 
-text-requires : tie.Need-text-requires
-text-requires c κs = search needs
+text-in-requires : tie.Need-text-in-requires
+text-in-requires c κs = let start = c .before .before .before .before .before .before .before .before .before .before .before .before .before .before .before .before in printable-field (now (start .args .s)) 92 6 (lit< tt) (start .pre .1)
 
 enum-told-6 : tie.Need-enum-told-6
 enum-told-6 c = search needs
@@ -163,7 +164,7 @@ returns-4 : tie.Need-returns-4
 returns-4 c n =
     let s = piece-15 (c .before .before .before .before) in
     let m = numbers-15 (c .before .before .before .before) n in
-    past-15 (c .before .before .before .before) n _ (stops 15 m s _ (lit< tt) (kind-bad text (part s 92 6) _ (c .before .before .text .ensures) (c .enum-told7 .given .1)) refl)
+    past-15 (c .before .before .before .before) n _ (stops 15 m s _ (lit< tt) (kind-bad text (part s 92 6) _ (c .before .before .text-in .ensures) (c .enum-told7 .given .1)) refl)
 
 sub-code-2 : tie.Need-sub-code-2
 sub-code-2 c = search needs
@@ -224,10 +225,10 @@ order-fields-spec =
     enum-known-contracts
     enum-told-5
     returns-3
-    sub-text
-    part-text-start
-    part-text-end
-    text-requires
+    sub-text-in
+    part-text-in-start
+    part-text-in-end
+    text-in-requires
     enum-told-6
     enum-told-7
     returns-4

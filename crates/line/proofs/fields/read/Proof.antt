@@ -1,4 +1,5 @@
 -- `line::fields::read` meets its contract.
+use mathlib.Core.Path.{sym, _∙_}
 use borrow.Author.Tests.{not-true, not-false}
 use borrow.Author.Needs.{needs}
 use denote.Ref.{now}
@@ -58,7 +59,7 @@ returns-4 : tie.Need-returns-4
 returns-4 c = odd-byte (now (c .before .before .before .before .before .before .before .before .before .before .before .args .piece)) _ _ (c .before .before .before .before .before .before .before .before .before .is-crlf .ensures) (c .before .before .before .before .before .before .before .before .if1 .left) (c .before .before .before .before .before .before .before .if2 .left) _ (c .before .before .before .before .before .is-crlf2 .ensures) (not-false _ (c .before .before .before .before .if3 .left)) _ (c .before .before .all-of .ensures) (not-true _ (c .before .if4 .taken)) (c .refused3 .ensures)
 
 by-fields-requires : tie.Need-by-fields-requires
-by-fields-requires c κs = search needs
+by-fields-requires c κs = (search needs, sym (c .before .all-of .ensures) ∙ not-false _ (c .if4 .left))
 
 returns-5 : tie.Need-returns-5
 returns-5 c = by-fields (now (c .before .before .before .before .before .before .before .before .before .before .before .args .piece)) _ _ (c .before .before .before .before .before .before .before .before .before .is-crlf .ensures) (c .before .before .before .before .before .before .before .before .if1 .left) (c .before .before .before .before .before .before .before .if2 .left) _ (c .before .before .before .before .before .is-crlf2 .ensures) (not-false _ (c .before .before .before .before .if3 .left)) _ (c .before .before .all-of .ensures) (not-false _ (c .before .if4 .left)) (c .by-fields .ensures)
