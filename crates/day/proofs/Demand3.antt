@@ -8,7 +8,7 @@ use Rattle.order.specs.declared.Order.{Order}
 use Rattle.day.specs.Damage.{eldersOf}
 use Rattle.day.specs.Demand3.{Demand3, IsSheet, Tells, tableAfter, historyAfter}
 use Rattle.day.specs.History.{History, ordersOf}
-use Rattle.day.specs.Listing.{Member, Each, Listed, shown, membersOf}
+use Rattle.day.specs.Listing.{Member, Each, membersOf}
 use Rattle.day.specs.Machine.{book}
 use Rattle.day.specs.Tables.{Table}
 use Rattle.day.specs.Walk.{rootCount, families, rowsFor, sheetOf}

@@ -3,14 +3,13 @@ use mathlib.Core.Path.{_≡_, refl, sym, subst, _∙_}
 use mathlib.Core.Logic.{_⊎_, inl, inr}
 use mathlib.Core.Bool.{Bool, true, false, not, _&&_, false≢true, and-false, or-true}
 use mathlib.Core.List.{[], _∷_, List·Memᴰ, List·Memᴰ·not-nil, List·Memᴰ·append-cases, List·Memᴰ·eq-of-singleton}
-use borrow.Author.Tests.{not-true}
 use Rattle.layout.specs.Line.{endOfDay, line}
 use Rattle.layout.specs.declared.Event.{Event}
 use Rattle.layout.specs.declared.Event.the-variants.{Accepted, Executed, Cancelled, Broken, Replaced, Repriced}
 use Rattle.layout.specs.declared.Record.{Record}
 use Rattle.order.specs.Names.{keyOf, elderKeyOf, sameKey}
 use Rattle.order.specs.declared.Key.{Key}
-use Rattle.day.specs.History.{History, isNew, isReplace, isMaker, madeBy, about, replaces, sumOf, passedOf, linesThatMake, known}
+use Rattle.day.specs.History.{History, isNew, isReplace, isMaker, madeBy, replaces, sumOf, passedOf, linesThatMake, known}
 use Rattle.day.specs.Refusals.{subject}
 use Rattle.run.proofs.Tests.{neither}
 use Rattle.order.proofs.Sameness.{key-eq, key-comm, key-self}

@@ -31,7 +31,7 @@ use Rattle.day.specs.Machine.{place, checks, refusalOf, bookRead}
 use Rattle.day.specs.Tables.{Table, Booked}
 use Rattle.day.proofs.Chain.{first-number}
 use Rattle.table.specs.Entries.{placeOr8, lookUpAnswer, copyAnswer, copiedFrom}
-use Rattle.slot.specs.Slots.{keyIn}
+use Rattle.slot.specs.Slots.{slotWidth, keyIn}
 use Rattle.table.specs.Tables.{tableLength, leastLimit, limitOf, countIn, tableIn, sound, makeAnswer, madeFrom}
 use Rattle.book.specs.Bytes.{bookAnswer}
 use Rattle.book.proofs.Refuted.{refusal-stays}
@@ -141,7 +141,7 @@ look-up-told s k =
 copy-told : (s : List ℕ) (i : ℕ) (before : List ℕ) → Told (copyAnswer s i before)
 copy-told s i before =
     both Told (sound s)
-    (both Told (ltb (length before) 80) (other NoRoom refl) (both Told (ltb i (countIn s)) (given tt) (other UnknownKey refl))) (other Damaged refl)
+    (both Told (ltb (length before) slotWidth) (other NoRoom refl) (both Told (ltb i (countIn s)) (given tt) (other UnknownKey refl))) (other Damaged refl)
 
 sheet-told : (s before : List ℕ) → Told (sheetAnswer s before)
 unfolding sheetAnswer

@@ -4,7 +4,7 @@ use native.Mathlib.Nat.{pow-suc}
 use native.Mathlib.Omega.{arith}
 use mathlib.Core.Path.{_≡_, refl, sym, ap, _∙_}
 use mathlib.Core.Bool.{Bool, true, false, cond}
-use mathlib.Core.List.{List, [], _∷_, _++_}
+use mathlib.Core.List.{[], _∷_, _++_}
 use borrow.Author.Tests.{lt-ltb, le-ltb, ltb-true, ltb-false, ne-eqb}
 use lib.Dec.{ltb}
 use lib.ListN.{length}
@@ -13,7 +13,6 @@ use Rattle.field.specs.Byte.{isOf}
 use Rattle.field.specs.Number.{spaced, rest, filled}
 use Rattle.field.specs.declared.Class.the-variants.{Digit}
 use Rattle.field.specs.declared.Number.the-variants.{Value}
-use Rattle.run.proofs.Tests.{both}
 use Rattle.run.proofs.All.{all-snoc}
 use Rattle.field.proofs.Fill.{FillWritten, is-between, length-snoc, snoc-written}
 use Rattle.field.proofs.Laws.{spaced-read}

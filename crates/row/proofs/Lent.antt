@@ -6,7 +6,7 @@ use mathlib.Core.Path.{_≡_, sym, ap, ap₂, _∙_}
 use mathlib.Core.List.{List}
 use lib.ListN.{length, take, drop, length-take}
 use Rattle.order.specs.declared.Figures.{Figures}
-use Rattle.slot.specs.Slots.{figuresIn, orderIn}
+use Rattle.slot.specs.Slots.{slotWidth, figuresIn, orderIn}
 use Rattle.slot.specs.Places.{slot, slotAt, SlotInside}
 use Rattle.row.specs.Texts.{decimal, trimmed, figuresText, namesText, rankText, orderText}
 use Rattle.row.specs.Writes.{Put, Wrote}
@@ -17,7 +17,7 @@ use Rattle.row.proofs.Trimming.{trimmed-most}
 
 -- the 80 bytes of a slot, the 6 of its Source and the 20 of its Token
 abbrev pub lentSlot : List ℕ → ℕ → List ℕ
-lentSlot t i = take (slotAt i + 80 - slotAt i) (drop (slotAt i) t)
+lentSlot t i = take (slotAt i + slotWidth - slotAt i) (drop (slotAt i) t)
 
 abbrev pub lentSource : List ℕ → ℕ → List ℕ
 lentSource t i = take (slotAt i + 6 - slotAt i) (drop (slotAt i) t)
@@ -26,17 +26,17 @@ abbrev pub lentToken : List ℕ → ℕ → List ℕ
 lentToken t i = take (slotAt i + 26 - (slotAt i + 6)) (drop (slotAt i + 6) t)
 
 slot-lent : (t : List ℕ) (i : ℕ) → lentSlot t i ≡ slot t i
-slot-lent t i = let wide : slotAt i + 80 - slotAt i ≡ 80 = omega arith in rw wide
+slot-lent t i = let wide : slotAt i + slotWidth - slotAt i ≡ slotWidth = omega arith in rw wide
 
 source-lent : (t : List ℕ) (i : ℕ) → lentSource t i ≡ orderIn (slot t i) .key .source
 source-lent t i =
     let wide : slotAt i + 6 - slotAt i ≡ 6 = omega arith in
-    rw wide (sym (rw (add-zero (slotAt i)) at (part-part t (slotAt i) 80 0 6 (omega arith))))
+    rw wide (sym (rw (add-zero (slotAt i)) at (part-part t (slotAt i) slotWidth 0 6 (omega arith))))
 
 token-lent : (t : List ℕ) (i : ℕ) → lentToken t i ≡ orderIn (slot t i) .key .token
 token-lent t i =
     let wide : slotAt i + 26 - (slotAt i + 6) ≡ 20 = omega arith in
-    rw wide (sym (part-part t (slotAt i) 80 6 20 (omega arith)))
+    rw wide (sym (part-part t (slotAt i) slotWidth 6 20 (omega arith)))
 
 pub token-most : (t : List ℕ) (i : ℕ) → length (trimmed (lentToken t i)) ≤ 20
 token-most t i = omega (arith, trimmed-most (lentToken t i), length-take (slotAt i + 26 - (slotAt i + 6)) (drop (slotAt i + 6) t))
@@ -79,5 +79,5 @@ module _ (t : List ℕ) (i family rank : ℕ) (f : Figures) (e : f ≡ figuresIn
   pub row-long : (d : ℕ) → SlotInside i t → d ≡ length (trimmed (lentToken t i))
       → length (decimal family) + length (decimal rank) + length (figuresText f) + d + 10 ≡ length (orderText family rank (orderIn (slot t i)))
   row-long d h k =
-      let source : length (orderIn (slot t i) .key .source) ≡ 6 = length-part (slot t i) 0 6 (rw (length-part t (slotAt i) 80 h) (omega arith)) in
+      let source : length (orderIn (slot t i) .key .source) ≡ 6 = length-part (slot t i) 0 6 (rw (length-part t (slotAt i) slotWidth h) (omega arith)) in
       omega (arith, lent-length, rank-length family rank, names-length (lentSource t i) (lentToken t i), ap length (source-lent t i))

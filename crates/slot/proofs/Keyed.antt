@@ -21,7 +21,7 @@ use Rattle.section.proofs.Places.{key-in-record}
 use Rattle.section.proofs.Lists.{records-last, length-records}
 use Rattle.index.specs.Searches.{orElse, hasKey, earliest}
 use Rattle.index.specs.Indexes.{Indexed}
-use Rattle.slot.specs.Slots.{keyIn, orderIn}
+use Rattle.slot.specs.Slots.{slotWidth, keyIn, orderIn}
 use Rattle.slot.specs.Places.{slots, slotKeys, slot, ordersIn}
 
 pub keys-of-slots : KeyOf slotKeys slots
@@ -57,7 +57,7 @@ slot-key s i =
 slot-has : (s : List ℕ) (i : ℕ) (key : List ℕ) → length key ≡ 26 → sameKey (keyIn (slot s i)) (keyIn key) ≡ hasKey slotKeys s key i
 slot-has s i key e =
     ap (λ k. sameKey k (keyIn key)) (slot-key s i)
-    ∙ same-keys (recordOf slotKeys s i) key (omega (arith, length-take 26 (drop (8 + 80 * i) s))) (omega arith)
+    ∙ same-keys (recordOf slotKeys s i) key (omega (arith, length-take 26 (drop (8 + slotWidth * i) s))) (omega arith)
 
 -- ---- all orders
 

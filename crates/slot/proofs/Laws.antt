@@ -11,7 +11,7 @@ use Rattle.section.specs.Sections.{Holds}
 use Rattle.run.proofs.Parts.{take-sets, part-before}
 use Rattle.section.proofs.Stores as stores
 use Rattle.section.proofs.Lists as lists
-use Rattle.slot.specs.Slots.{orderIn, slotBytes, Fits}
+use Rattle.slot.specs.Slots.{slotWidth, orderIn, slotBytes, Fits}
 use Rattle.slot.specs.Places.{slots, slotAt, slot, SlotInside, ordersIn}
 use Rattle.slot.proofs.Said.{length-slot, slot-says}
 
@@ -20,10 +20,10 @@ slots-held s n h = record { apart = omega arith; inside = λ i l. omega arith }
 
 -- ---- slots and header
 
-pub stored-here : (s : List ℕ) (i : ℕ) (b : List ℕ) → length b ≡ 80 → SlotInside i s → slot (sets s (slotAt i) b) i ≡ b
+pub stored-here : (s : List ℕ) (i : ℕ) (b : List ℕ) → length b ≡ slotWidth → SlotInside i s → slot (sets s (slotAt i) b) i ≡ b
 stored-here s i b e h = stores.stored-here slots s b i e h
 
-pub stored-elsewhere : (s : List ℕ) (i j : ℕ) (b : List ℕ) → length b ≡ 80 → (i ≡ j → ⊥) → slot (sets s (slotAt i) b) j ≡ slot s j
+pub stored-elsewhere : (s : List ℕ) (i j : ℕ) (b : List ℕ) → length b ≡ slotWidth → (i ≡ j → ⊥) → slot (sets s (slotAt i) b) j ≡ slot s j
 stored-elsewhere s i j b e d = stores.stored-elsewhere slots s b i j e (omega arith) d
 
 -- a store into the header leaves every slot

@@ -8,9 +8,9 @@ use Rattle.run.specs.Runs.{part}
 use Rattle.cell.specs.Cells.{le, leBytes}
 use Rattle.cell.proofs.Laws.{le-written}
 use Rattle.order.specs.declared.Order.{Order}
-use Rattle.slot.specs.Slots.{figuresBytes, slotBytes, orderIn, Fits}
+use Rattle.slot.specs.Slots.{slotWidth, figuresBytes, slotBytes, orderIn, Fits}
 
-pub length-slot : {o : Order} → Fits o → length (slotBytes o) ≡ 80
+pub length-slot : {o : Order} → Fits o → length (slotBytes o) ≡ slotWidth
 length-slot f = simp (length-append, f .source .0, f .token .0, f .root .0)
 
 -- ---- what stands at a seam

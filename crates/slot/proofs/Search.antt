@@ -11,7 +11,7 @@ use Rattle.order.specs.Names.{sameKey}
 use Rattle.order.specs.declared.Key.{Key}
 use Rattle.day.specs.History.{oneMore}
 use Rattle.day.specs.Machine.{place}
-use Rattle.slot.specs.Slots.{keyIn}
+use Rattle.slot.specs.Slots.{slotWidth, keyIn}
 use Rattle.slot.specs.Places.{slot, ordersIn}
 use Rattle.run.proofs.Parts.{part-part}
 
@@ -19,15 +19,15 @@ use Rattle.run.proofs.Parts.{part-part}
 
 module _ (s : List ℕ) (at : ℕ) (k : Key) (six : length (k .source) ≡ 6) (twenty : length (k .token) ≡ 20) (a : Bool)
     (asked : a ≡ same (part s (at + 6) (length (k .token))) (k .token)) where
-  both-tests : sameKey (keyIn (part s at 80)) k ≡ (a && same (part s at (length (k .source))) (k .source))
+  both-tests : sameKey (keyIn (part s at slotWidth)) k ≡ (a && same (part s at (length (k .source))) (k .source))
   both-tests =
-      rw (asked, six, twenty, part-part s at 80 0 6 (omega arith), add-zero, part-part s at 80 6 20 (omega arith))
+      rw (asked, six, twenty, part-part s at slotWidth 0 6 (omega arith), add-zero, part-part s at slotWidth 6 20 (omega arith))
       (and-comm (same (part s at 6) (k .source)) (same (part s (at + 6) 20) (k .token)))
 
-  pub its-token : (b : Bool) → b ≡ same (part s at (length (k .source))) (k .source) → a ≡ true → b ≡ sameKey (keyIn (part s at 80)) k
+  pub its-token : (b : Bool) → b ≡ same (part s at (length (k .source))) (k .source) → a ≡ true → b ≡ sameKey (keyIn (part s at slotWidth)) k
   its-token b p e = p ∙ sym (both-tests ∙ rw e)
 
-  pub other-token : a ≡ false → a ≡ sameKey (keyIn (part s at 80)) k
+  pub other-token : a ≡ false → a ≡ sameKey (keyIn (part s at slotWidth)) k
   other-token e = e ∙ sym (both-tests ∙ rw e)
 
 -- ---- slot after slot

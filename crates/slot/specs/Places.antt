@@ -4,17 +4,17 @@ use mathlib.Core.List.{List}
 use Rattle.order.specs.declared.Order.{Order}
 use Rattle.section.specs.Sections.{startOf, recordOf, recordsIn, Inside}
 use Rattle.section.specs.declared.Section.{Section}
-use Rattle.slot.specs.Slots.{orderIn}
+use Rattle.slot.specs.Slots.{slotWidth, orderIn}
 use Rattle.slot.specs.declared.Place.{Place}
 use Rattle.slot.specs.declared.Place.the-variants.{At, Nobody}
 
 -- slots of 80 bytes, one right behind the other, behind the header
 abbrev pub slots : Section
-slots = record { first = 8; step = 80; width = 80 }
+slots = record { first = 8; step = slotWidth; width = slotWidth }
 
 -- the key at the beginning of each slot: its Source, then its Token
 abbrev pub slotKeys : Section
-slotKeys = record { first = 8; step = 80; width = 26 }
+slotKeys = record { first = 8; step = slotWidth; width = 26 }
 
 abbrev pub slotAt : ℕ → ℕ
 slotAt i = startOf slots i

@@ -12,6 +12,10 @@ use Rattle.order.specs.declared.Key.{Key}
 use Rattle.order.specs.declared.Order.{Order}
 use Rattle.order.specs.declared.Series.{Series}
 
+-- the bytes of a slot
+abbrev pub slotWidth : ℕ
+slotWidth = 80
+
 abbrev pub keyIn : List ℕ → Key
 keyIn b = record { source = part b 0 6; token = part b 6 20 }
 

@@ -6,7 +6,7 @@ ghost use Rattle.run.specs.Runs.{part};
 ghost use Rattle.order.specs.Names.{sameKey};
 ghost use Rattle.day.specs.Machine.{place};
 ghost use Rattle.index.specs.Indexes.{Indexed};
-ghost use Rattle.slot.specs.Slots.{keyIn};
+ghost use Rattle.slot.specs.Slots.{slotWidth, keyIn};
 ghost use Rattle.slot.specs.Places.{slotAt, slotKeys, ordersIn, placeNo};
 use crate::HEADER;
 use crate::KEY;
@@ -18,10 +18,10 @@ use section::Section;
 
 // Whether the slot at an offset has the key made of two runs. The Token is tested first: many orders have one Source, and few one Token.
 fn has_key(t: &[u8], at: usize, source: &[u8], token: &[u8]) -> bool
-    requires { ⌜ at + 80 ≤ length (now t) ⌝ }
+    requires { ⌜ at + slotWidth ≤ length (now t) ⌝ }
     requires { ⌜ length (now source) ≡ 6 ⌝ }
     requires { ⌜ length (now token) ≡ 20 ⌝ }
-    ensures { λ r. ⌜ r ≡ sameKey (keyIn (part (now (t .entry)) at 80)) (record { source = now (source .entry); token = now (token .entry) }) ⌝ }
+    ensures { λ r. ⌜ r ≡ sameKey (keyIn (part (now (t .entry)) at slotWidth)) (record { source = now (source .entry); token = now (token .entry) }) ⌝ }
 {
     run::same_at(t, at + offset::TOKEN, token) && run::same_at(t, at, source)
 }

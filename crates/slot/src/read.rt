@@ -1,7 +1,7 @@
 // An order read from the 80 bytes of its slot, by value.
 ghost use mathlib.Core.Path.{_≡_};
 ghost use lib.ListN.{length};
-ghost use Rattle.slot.specs.Slots.{orderIn, keyIn, seriesIn, figuresIn};
+ghost use Rattle.slot.specs.Slots.{slotWidth, orderIn, keyIn, seriesIn, figuresIn};
 ghost use Rattle.slot.specs.Places.{slot, SlotInside};
 use crate::HEADER;
 use crate::KEY;
@@ -14,7 +14,7 @@ use order::Series;
 
 // b is the 80 bytes of a slot.
 fn key_in(b: &[u8]) -> Key
-    requires { ⌜ length (now b) ≡ 80 ⌝ }
+    requires { ⌜ length (now b) ≡ slotWidth ⌝ }
     ensures { λ r. ⌜ r ≡ keyIn (now (b .entry)) ⌝ }
 {
     let mut source = [0u8; 6];
@@ -25,7 +25,7 @@ fn key_in(b: &[u8]) -> Key
 }
 
 fn series_in(b: &[u8]) -> Series
-    requires { ⌜ length (now b) ≡ 80 ⌝ }
+    requires { ⌜ length (now b) ≡ slotWidth ⌝ }
     ensures { λ r. ⌜ r ≡ seriesIn (now (b .entry)) ⌝ }
 {
     let mut root = [0u8; 6];
@@ -41,7 +41,7 @@ fn series_in(b: &[u8]) -> Series
 }
 
 pub fn figures_in(b: &[u8]) -> Figures
-    requires { ⌜ length (now b) ≡ 80 ⌝ }
+    requires { ⌜ length (now b) ≡ slotWidth ⌝ }
     ensures { λ r. ⌜ r ≡ figuresIn (now (b .entry)) ⌝ }
 {
     Figures {
@@ -55,7 +55,7 @@ pub fn figures_in(b: &[u8]) -> Figures
 }
 
 fn order_in(b: &[u8]) -> Order
-    requires { ⌜ length (now b) ≡ 80 ⌝ }
+    requires { ⌜ length (now b) ≡ slotWidth ⌝ }
     ensures { λ r. ⌜ r ≡ orderIn (now (b .entry)) ⌝ }
 {
     Order {

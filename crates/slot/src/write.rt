@@ -3,7 +3,7 @@ ghost use Prim.Native.Nat.{_+_, _≤_};
 ghost use mathlib.Core.Path.{_≡_};
 ghost use lib.ListN.{length};
 ghost use lib.Seq.{sets};
-ghost use Rattle.slot.specs.Slots.{slotBytes, keyBytes, expiryBytes, seriesBytes, tradedBytes, figuresBytes, termsBytes};
+ghost use Rattle.slot.specs.Slots.{slotWidth, slotBytes, keyBytes, expiryBytes, seriesBytes, tradedBytes, figuresBytes, termsBytes};
 ghost use Rattle.slot.specs.Places.{slotAt, SlotInside};
 use crate::HEADER;
 use crate::SLOT;
@@ -15,7 +15,7 @@ use order::Series;
 
 // In all of these a slot begins at `at`.
 fn put_key(t: &mut [u8], at: usize, k: Key)
-    requires { ⌜ at + 80 ≤ length (now t) ⌝ }
+    requires { ⌜ at + slotWidth ≤ length (now t) ⌝ }
     ensures { λ _. ⌜ now (t .exit) ≡ sets (now (t .entry)) at (keyBytes k) ⌝ }
 {
     let source = k.source;
@@ -26,7 +26,7 @@ fn put_key(t: &mut [u8], at: usize, k: Key)
 
 // The first nine bytes of a series. A function of its own, since the prover reads only so many facts of one.
 fn put_expiry(t: &mut [u8], at: usize, s: Series)
-    requires { ⌜ at + 80 ≤ length (now t) ⌝ }
+    requires { ⌜ at + slotWidth ≤ length (now t) ⌝ }
     ensures { λ _. ⌜ now (t .exit) ≡ sets (now (t .entry)) (at + 27) (expiryBytes s) ⌝ }
 {
     let root = s.root;
@@ -37,7 +37,7 @@ fn put_expiry(t: &mut [u8], at: usize, s: Series)
 }
 
 fn put_series(t: &mut [u8], at: usize, s: Series)
-    requires { ⌜ at + 80 ≤ length (now t) ⌝ }
+    requires { ⌜ at + slotWidth ≤ length (now t) ⌝ }
     ensures { λ _. ⌜ now (t .exit) ≡ sets (now (t .entry)) (at + 27) (seriesBytes s) ⌝ }
 {
     put_expiry(t, at, s);
@@ -47,7 +47,7 @@ fn put_series(t: &mut [u8], at: usize, s: Series)
 
 // The first three figures.
 fn put_traded(t: &mut [u8], at: usize, f: Figures)
-    requires { ⌜ at + 80 ≤ length (now t) ⌝ }
+    requires { ⌜ at + slotWidth ≤ length (now t) ⌝ }
     ensures { λ _. ⌜ now (t .exit) ≡ sets (now (t .entry)) (at + 51) (tradedBytes f) ⌝ }
 {
     cell::put(t, at + offset::SIZE, 4, f.size);
@@ -56,7 +56,7 @@ fn put_traded(t: &mut [u8], at: usize, f: Figures)
 }
 
 fn put_figures(t: &mut [u8], at: usize, f: Figures)
-    requires { ⌜ at + 80 ≤ length (now t) ⌝ }
+    requires { ⌜ at + slotWidth ≤ length (now t) ⌝ }
     ensures { λ _. ⌜ now (t .exit) ≡ sets (now (t .entry)) (at + 51) (figuresBytes f) ⌝ }
 {
     put_traded(t, at, f);
@@ -67,7 +67,7 @@ fn put_figures(t: &mut [u8], at: usize, f: Figures)
 
 // All of an order but its elder and its figures.
 fn put_terms(t: &mut [u8], at: usize, o: Order)
-    requires { ⌜ at + 80 ≤ length (now t) ⌝ }
+    requires { ⌜ at + slotWidth ≤ length (now t) ⌝ }
     ensures { λ _. ⌜ now (t .exit) ≡ sets (now (t .entry)) at (termsBytes o) ⌝ }
 {
     put_key(t, at, o.key);

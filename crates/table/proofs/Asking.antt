@@ -12,7 +12,7 @@ use Rattle.run.specs.Runs.{part}
 use Rattle.refusal.specs.declared.Refusal.the-variants.{NoRoom, Damaged, UnknownKey}
 use Rattle.day.specs.Machine.{place}
 use Rattle.table.specs.Promises.{LooksUp, Copies}
-use Rattle.slot.specs.Slots.{keyIn}
+use Rattle.slot.specs.Slots.{slotWidth, keyIn}
 use Rattle.slot.specs.Places.{slotAt, SlotInside}
 use Rattle.table.specs.Tables.{countIn, sound, tableIn}
 use Rattle.table.specs.declared.Found.the-variants.{At as FoundAt, Refused as NotFound}
@@ -43,22 +43,22 @@ module _ (s : List ℕ) (i : ℕ) (before : List ℕ) where
   uncopied e = record { said = rw e; out = rw e }
 
   module _ (e : sound s ≡ true) where
-    pub no-room : length before < 80 → Copies s i before (Refused NoRoom) before
-    no-room h = let short = lt-ltb (length before) 80 h in record { said = rw (e, short); out = rw (e, short) }
+    pub no-room : length before < slotWidth → Copies s i before (Refused NoRoom) before
+    no-room h = let short = lt-ltb (length before) slotWidth h in record { said = rw (e, short); out = rw (e, short) }
 
-    module _ (h : 80 ≤ length before) where
+    module _ (h : slotWidth ≤ length before) where
       pub no-order : countIn s ≤ i → Copies s i before (Refused UnknownKey) before
       no-order k =
-          let room = le-ltb (length before) 80 h in
+          let room = le-ltb (length before) slotWidth h in
           let none = le-ltb i (countIn s) k in
           record { said = rw (e, room, none); out = rw (e, room, none) }
 
-      pub copied : i < countIn s → (after : List ℕ) → after ≡ sets before 0 (part s (slotAt i) (slotAt i + 80 - slotAt i))
+      pub copied : i < countIn s → (after : List ℕ) → after ≡ sets before 0 (part s (slotAt i) (slotAt i + slotWidth - slotAt i))
           → Copies s i before Done after
       copied k after f =
-          let room = le-ltb (length before) 80 h in
+          let room = le-ltb (length before) slotWidth h in
           let there = lt-ltb i (countIn s) k in
-          let wide : slotAt i + 80 - slotAt i ≡ 80 = omega arith in
+          let wide : slotAt i + slotWidth - slotAt i ≡ slotWidth = omega arith in
           record { said = rw (e, room, there); out = rw (e, room, there) (rw wide at f) }
 
 -- a place below the count has a slot inside

@@ -18,7 +18,7 @@ use Rattle.order.specs.declared.Order.{Order}
 use Rattle.day.specs.Machine.{place, amend}
 use Rattle.day.specs.Tables.{Table, withOrders, withOver}
 use Rattle.day.proofs.Tables.{table-eq}
-use Rattle.slot.specs.Slots.{slotBytes, termsBytes, figuresBytes, orderIn, Fits}
+use Rattle.slot.specs.Slots.{slotWidth, slotBytes, termsBytes, figuresBytes, orderIn, Fits}
 use Rattle.slot.specs.Places.{slotAt, slot, ordersIn, SlotInside}
 use Rattle.slot.proofs.Laws.{stored-here, stored-elsewhere, header-kept, header-byte, orders-kept, orders-set, orders-append, length-orders, order-no}
 use Rattle.slot.proofs.Lookups.{at-found, amend-at}
@@ -43,7 +43,7 @@ pub record Holds (s : List ℕ) (t : Table) : Type 0 where
 -- ---- tails
 
 slot-tail : (s : List ℕ) (k : ℕ) → part (slot s k) 75 5 ≡ part s (slotAt k + 75) 5
-slot-tail s k = part-part s (slotAt k) 80 75 5 (omega arith)
+slot-tail s k = part-part s (slotAt k) slotWidth 75 5 (omega arith)
 
 tail-written : (o : Order) → Fits o → part (slotBytes o) 75 5 ≡ replicate 5 0
 tail-written o f =

@@ -7,6 +7,7 @@ use mathlib.Core.List.{List, [], _∷_}
 use borrow.Author.Tests.{eqb-true, eq-eqb, ne-eqb, ltb-true, ltb-false, leb-true}
 use lib.Dec.{ltb, leb, eqb}
 use Rattle.run.specs.Runs.{all}
+use Rattle.slot.specs.Slots.{slotWidth}
 use Rattle.slot.specs.Places.{slotAt}
 use Rattle.table.specs.Tables.{tableLength, leastLimit, limits, limitAmong, limitOf}
 use Rattle.run.proofs.Tests.{both}
@@ -80,7 +81,7 @@ limit-none len e = rw (ne-eqb len (tableLength leastLimit) e)
 
 -- ---- places
 
-pub slot-inside : (len i : ℕ) → i < limitOf len → slotAt i + 80 ≤ len
+pub slot-inside : (len i : ℕ) → i < limitOf len → slotAt i + slotWidth ≤ len
 slot-inside len i h = omega (arith, limit-length len (omega arith))
 
 pub slots-inside : (len n : ℕ) → 0 < limitOf len → n ≤ limitOf len → slotAt n ≤ len

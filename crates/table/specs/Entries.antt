@@ -7,7 +7,7 @@ use lib.ListN.{length}
 use lib.Seq.{sets}
 use Rattle.refusal.specs.Answer.{Answer, value, refused}
 use Rattle.day.specs.Machine.{place}
-use Rattle.slot.specs.Slots.{keyIn}
+use Rattle.slot.specs.Slots.{slotWidth, keyIn}
 use Rattle.slot.specs.Places.{slot}
 use Rattle.table.specs.Tables.{countIn, tableIn, sound}
 
@@ -24,7 +24,7 @@ lookUpAnswer s k =
 -- the order at place i, into a lent buffer: 5, 4, then 8
 abbrev pub copyAnswer : List ℕ → ℕ → List ℕ → Answer (Unit {0})
 copyAnswer s i before =
-    cond (sound s) (cond (ltb (length before) 80) (refused 4 0) (cond (ltb i (countIn s)) (value tt) (refused 8 0))) (refused 5 0)
+    cond (sound s) (cond (ltb (length before) slotWidth) (refused 4 0) (cond (ltb i (countIn s)) (value tt) (refused 8 0))) (refused 5 0)
 
 -- its slot as it stands
 abbrev pub copiedFrom : Answer (Unit {0}) → List ℕ → ℕ → List ℕ → List ℕ

@@ -4,6 +4,7 @@ use mathlib.Core.Path.{ap, sym, _∙_}
 use borrow.Author.Needs.{needs}
 use denote.Ref.{now}
 use Rattle.cell.specs.Cells.{le}
+use Rattle.slot.specs.Slots.{slotWidth}
 use Rattle.slot.specs.Places.{slotAt}
 use Rattle.run.proofs.Parts.{part-part}
 use Rattle.slot.proofs.read.elder_at.Statement.{statement}
@@ -24,7 +25,7 @@ get-requires c κs = search needs
 returns : tie.Need-returns
 returns c =
     let start = c .before .before .args in
-    c .get .ensures ∙ sym (ap le (part-part (now (start .t)) (slotAt (start .i)) 80 49 2 (omega arith)))
+    c .get .ensures ∙ sym (ap le (part-part (now (start .t)) (slotAt (start .i)) slotWidth 49 2 (omega arith)))
 
 pub elder-at-spec : {M : Type 1} → statement M
 elder-at-spec = tie.close (tie.spec mul-get add-get add-get-2 get-requires returns)

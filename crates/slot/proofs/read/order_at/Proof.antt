@@ -3,6 +3,7 @@ use Prim.Native.Nat.{_+_, _-_}
 use mathlib.Core.Path.{_≡_}
 use native.Mathlib.Omega.{arith}
 use borrow.Author.Needs.{needs}
+use Rattle.slot.specs.Slots.{slotWidth}
 use Rattle.slot.specs.Places.{slotAt}
 use Rattle.slot.proofs.read.order_at.Statement.{statement}
 use Rattle.slot.proofs.read.order_at.Tie as tie
@@ -31,7 +32,7 @@ order-in-requires c κs = search needs
 returns : tie.Need-returns
 returns c =
     let at = slotAt (c .before .before .before .args .i) in
-    let wide : at + 80 - at ≡ 80 = omega arith in
+    let wide : at + slotWidth - at ≡ slotWidth = omega arith in
     rw wide at (c .order-in .ensures)
 
 pub order-at-spec : {M : Type 1} → statement M
