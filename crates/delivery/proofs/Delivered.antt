@@ -20,6 +20,7 @@ use Rattle.day.proofs.Demand3.{demand3}
 use Rattle.table.specs.Promises.{Makes}
 use Rattle.table.specs.Tables.{limitOf, tableIn, sound, madeFrom}
 use Rattle.table.specs.declared.Made.{Made}
+use Rattle.table.proofs.Limits.{limit-is, limit-none}
 use Rattle.table.proofs.Making.{taken}
 use Rattle.book.specs.Bytes.{bookBytes, bookAnswer, bytesAfter}
 use Rattle.book.specs.Promises.{Books, bookingOf}
@@ -29,9 +30,9 @@ use Rattle.book.proofs.Reached.{reached-bytes}
 use Rattle.sheet.specs.Promises.{Sheets, sheetWrittenOf, sheetAnswer, sheetFrom, textOf}
 use Rattle.sheet.specs.Texts.{sheetText}
 use Rattle.sheet.specs.declared.SheetWritten.{SheetWritten}
-use Rattle.sheet.proofs.Bound.{sheet-bound}
+use Rattle.sheet.proofs.Bound.{least-sheet, sheet-bound}
 use Rattle.feed.specs.Printed.{report, printedFrom}
-use Rattle.delivery.specs.Delivered.{Call, Day, begun, booked, acceptedIn, inOrder, refusalLines, Shows, Delivery}
+use Rattle.delivery.specs.Delivered.{Call, Day, begun, booked, acceptedIn, inOrder, refusalLines, Shows, Delivered, Delivery}
 
 -- the pieces, latest first
 abbrev piecesIn : List Call → List (List ℕ)
@@ -122,9 +123,9 @@ module _ (before : List ℕ) (meant : 0 < limitOf (length before)) where
         room = rw (same-limit d) at (sheet-bound table (still-sound d));
       }
 
-pub delivery : Delivery
+delivered : (before : List ℕ) → 0 < limitOf (length before) → Delivered before
 unfolding shows
-delivery before meant =
+delivered before meant =
     record {
       answers = λ {calls} d p x after b.
           subst₂ (λ (h : History) (a : Answer (Unit {0})). IsAnswer (limitOf (length before)) h p a) (sym (same-history before meant d)) (sym (same-answer before meant d p x after b))
@@ -135,3 +136,6 @@ delivery before meant =
           ∙ printed-so before meant d []
           ∙ ap (λ (t : Table). refusalLines calls ++ sheetText t) (sym (same-table before meant d));
     }
+
+pub delivery : Delivery
+delivery = record { limit = sym (limit-is 40968 refl); no-other = λ n h. sym (limit-none n h); longest = least-sheet; delivered = delivered }
