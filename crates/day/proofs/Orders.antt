@@ -2,7 +2,7 @@
 use Prim.Native.Nat.{ℕ, zero, suc, _+_, _-_, _≤_, _<_}
 use native.Mathlib.Omega.{arith}
 use mathlib.Core.Path.{_≡_, refl, sym, ap, _∙_}
-use mathlib.Core.Bool.{Bool, true, false, cond, not, _||_, false≢true, or-true, or-false, or-assoc}
+use mathlib.Core.Bool.{Bool, true, false, cond, not, _||_, false≢true, or-true, or-false}
 use mathlib.Core.List.{List, [], _∷_, _++_, map}
 use borrow.Author.Tests.{leb-true, le-leb, eqb-true, eq-eqb, eqb-false, ne-eqb, not-true}
 use lib.Dec.{leb, eqb, eqb·suc-zero}
@@ -14,6 +14,7 @@ use Rattle.order.specs.declared.Order.{Order}
 use Rattle.day.specs.Damage.{allSound, eldersOf, earlier, unshared, openAt, closed}
 use Rattle.order.specs.Stored.{soundOrder}
 use Rattle.day.specs.Machine.{found, find, isFound, place, amend}
+use Rattle.run.proofs.All.{member-append}
 use Rattle.run.proofs.Tests.{both, neither}
 
 -- ---- the earliest order with a key
@@ -146,9 +147,8 @@ earlier-behind i (x ∷ es) e h a =
     let b = both (leb x i) (earlier (i + 1) es) a in
     rw (b .0) (earlier-behind (i + 1) es e (omega arith) (b .1))
 
-member-behind : (b : ℕ) (es : List ℕ) (e : ℕ) → member b (es ++ (e ∷ [])) ≡ (member b es || eqb b e)
-member-behind b [] e = or-false (eqb b e)
-member-behind b (x ∷ es) e = rw (member-behind b es e) (sym (or-assoc (eqb b x) (member b es) (eqb b e)))
+pub member-behind : (b : ℕ) (es : List ℕ) (e : ℕ) → member b (es ++ (e ∷ [])) ≡ (member b es || eqb b e)
+member-behind b es e = member-append b es (e ∷ []) ∙ rw (or-false (eqb b e))
 
 pub unshared-behind : (es : List ℕ) (e : ℕ) → (1 ≤ e → member e es ≡ false) → unshared es ≡ true → unshared (es ++ (e ∷ [])) ≡ true
 unshared-behind [] e h u = rw or-true

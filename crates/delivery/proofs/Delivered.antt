@@ -1,13 +1,12 @@
 -- A day by the promises reaches the bytes of demand 3: its answers, its sheet, and what the program prints.
 use Prim.Native.Nat.{ℕ, _+_, _≤_, _<_}
-use native.Mathlib.Nat.{zero-add}
 use native.Mathlib.Omega.{arith}
 use mathlib.Core.Path.{_≡_, refl, sym, ap, ap₂, subst, subst₂, _∙_}
 use mathlib.Core.Bool.{true}
 use mathlib.Core.List.{List, [], _∷_, _++_, append-assoc, append-nil}
 use borrow.Author.Tests.{le-ltb}
 use lib.ListN.{length, drop}
-use lib.Seq.{sets-eq}
+use Rattle.run.proofs.Stores.{sets-start}
 use Rattle.refusal.specs.Answer.{Answer, value}
 use Rattle.layout.specs.Line.{read}
 use Rattle.day.specs.Demand3.{IsAnswer, IsSheet, AddsUp, joined, tableAfter, answerTo, historyAfter}
@@ -50,8 +49,7 @@ module _ (s : List ℕ) (good : sound s ≡ true) (out : List ℕ) (room : lengt
       → (sheetWrittenOf x ≡ value (length (textOf s))) × (after ≡ textOf s ++ drop (length (textOf s)) out)
   sheet-written p = (
     p .said ∙ answer,
-    p .out ∙ ap (λ (a : Answer ℕ). sheetFrom a s out) answer ∙ sets-eq (textOf s) out 0 (omega arith)
-        ∙ ap (λ (n : ℕ). textOf s ++ drop n out) (zero-add (length (textOf s))),
+    p .out ∙ ap (λ (a : Answer ℕ). sheetFrom a s out) answer ∙ sets-start out (textOf s) room,
   )
 
 module _ (before : List ℕ) (meant : 0 < limitOf (length before)) where

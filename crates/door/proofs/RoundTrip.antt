@@ -16,7 +16,7 @@ use Rattle.layout.proofs.Answers.{read-back, written-reads, length-line}
 use Rattle.layout.proofs.Demand2.{demand2}
 use Rattle.image.specs.Images.{imageOf, recordIn, unwritable}
 use Rattle.image.proofs.Back.{back, image-length}
-use Rattle.image.proofs.Cells.{sets-start}
+use Rattle.run.proofs.Stores.{sets-start}
 use Rattle.image.proofs.Forth.{whole, lawful, image-said}
 use Rattle.door.specs.Promises.{codeOf, readAnswer, writeAnswer, Reads, Writes}
 use Rattle.door.specs.RoundTrip.{RoundTrip}

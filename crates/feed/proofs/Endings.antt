@@ -2,24 +2,21 @@
 use Prim.Native.Nat.{ℕ, _+_, _-_, _≤_, _<_}
 use native.Mathlib.Omega.{arith}
 use mathlib.Core.Path.{_≡_, refl, sym, ap, _∙_}
-use mathlib.Core.Bool.{Bool, true, false, _||_, or-assoc, or-true, false≢true}
+use mathlib.Core.Bool.{Bool, true, false, _||_, or-true, false≢true}
 use mathlib.Core.List.{List, [], _∷_, _++_, append-assoc}
 use borrow.Author.Tests.{eqb-true}
 use lib.Dec.{eqb}
 use lib.ListN.{length, getD, take, drop, length-drop, take-append-drop}
 use lib.Seq.{length-take-le, getD-take, getD-drop}
 use Rattle.run.specs.Runs.{member}
+use Rattle.run.proofs.All.{member-append}
 use Rattle.piece.specs.Cuts.{Ended}
 use Rattle.feed.specs.Steps.{endsInLF}
 
 -- ---- runs without LF
 
-member-append : (p q : List ℕ) → member 10 (p ++ q) ≡ (member 10 p || member 10 q)
-member-append [] q = refl
-member-append (b ∷ p) q = rw (member-append p q) (sym (or-assoc (eqb 10 b) (member 10 p) (member 10 q)))
-
 pub none-both : (p q : List ℕ) → member 10 p ≡ false → member 10 q ≡ false → member 10 (p ++ q) ≡ false
-none-both p q e f = member-append p q ∙ rw (e, f)
+none-both p q e f = member-append 10 p q ∙ rw (e, f)
 
 none-first : (a b : Bool) → (a || b) ≡ false → a ≡ false
 none-first true b e = e
@@ -28,7 +25,7 @@ none-first false b e = refl
 pub none-front : (n : ℕ) (p : List ℕ) → member 10 p ≡ false → member 10 (take n p) ≡ false
 none-front n p e =
     none-first (member 10 (take n p)) (member 10 (drop n p))
-    (sym (member-append (take n p) (drop n p)) ∙ rw (take-append-drop n p) e)
+    (sym (member-append 10 (take n p) (drop n p)) ∙ rw (take-append-drop n p) e)
 
 -- ---- the end of a piece
 

@@ -1,6 +1,5 @@
 -- The numbers of a record as a list of cells, each put little end first in its place: what is put stands there, and what stands elsewhere stays.
 use Prim.Native.Nat.{ℕ, zero, suc, _+_, _≤_, _<_}
-use native.Mathlib.Nat.{zero-add}
 use native.Mathlib.Omega.{arith}
 use mathlib.Core.Path.{_≡_, refl, ap, _∙_}
 use mathlib.Core.Bool.{Bool, true, false, _&&_, _||_, false≢true}
@@ -8,9 +7,10 @@ use mathlib.Core.List.{List, [], _∷_, _++_}
 use borrow.Author.Tests.{leb-true}
 use lib.Dec.{leb}
 use lib.ListN.{length, getD, drop, set, length-set}
-use lib.Seq.{sets, sets-eq, length-sets}
+use lib.Seq.{sets, length-sets}
 use Rattle.run.specs.Runs.{part}
 use Rattle.cell.specs.Cells.{leBytes}
+use Rattle.run.proofs.Stores.{sets-start}
 use Rattle.run.proofs.Tests.{both, either}
 use Rattle.run.proofs.Parts.{part-before, part-after, part-whole}
 use Rattle.cell.proofs.Laws.{length-le}
@@ -81,9 +81,6 @@ cells-front (c ∷ cs) xs rest e =
     let bytes = leBytes (c .len) (c .number) in
     rw (sets-front bytes xs rest (c .at) (omega (arith, length-le (c .len) (c .number))))
     (cells-front cs (put c xs) rest (rw (length-put c xs) (h .1)))
-
-pub sets-start : (b xs : List ℕ) → length xs ≤ length b → sets b 0 xs ≡ xs ++ drop (length xs) b
-sets-start b xs h = sets-eq xs b 0 (omega arith) ∙ rw zero-add
 
 pub cells-inside : (cs : List Cell) (b xs : List ℕ) → length xs ≤ length b → fitting (length xs) cs ≡ true
     → putAll cs (sets b 0 xs) ≡ sets b 0 (putAll cs xs)

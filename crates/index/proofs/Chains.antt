@@ -10,16 +10,14 @@ use lib.Dec.{eqb}
 use lib.ListN.{length, getD}
 use Rattle.section.specs.Sections.{recordOf}
 use Rattle.section.specs.declared.Section.{Section}
-use Rattle.index.specs.Searches.{orElse, firstOf, hasKey, earliest}
+use Rattle.run.specs.Found.{orElse}
+use Rattle.run.proofs.Found.{or-none}
+use Rattle.index.specs.Searches.{firstOf, hasKey, earliest}
 use Rattle.index.specs.Tags.{bucketOf}
 use Rattle.index.specs.Indexes.{latest, bucketIn, Indexed}
 use Rattle.run.proofs.Sameness.{same-true}
 
 -- ---- one place or else another, and a number that is passed over
-
-or-none : (a : ℕ) → orElse a 0 ≡ a
-or-none zero = refl
-or-none (suc a) = refl
 
 or-or : (a : ℕ) (t : Bool) (i best : ℕ) → orElse (orElse a (cond t (suc i) 0)) best ≡ orElse a (cond t (suc i) best)
 or-or zero true i best = refl

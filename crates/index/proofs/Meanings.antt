@@ -3,15 +3,15 @@ use Prim.Native.Nat.{ℕ, zero, suc, _<_}
 use native.Mathlib.Omega.{arith}
 use mathlib.Core.Path.{_≡_, refl, sym, _∙_}
 use mathlib.Core.Bool.{Bool, true, false, cond, _&&_, true≢false}
-use mathlib.Core.List.{List, [], _∷_}
-use borrow.Author.Tests.{eqb-true, eq-eqb, ltb-true, ltb-false}
+use mathlib.Core.List.{List}
+use borrow.Author.Tests.{eqb-true, ltb-true, ltb-false}
 use lib.Dec.{eqb, ltb}
-use Rattle.run.specs.Runs.{same}
 use Rattle.section.specs.Sections.{recordOf}
 use Rattle.section.specs.declared.Section.{Section}
-use Rattle.index.specs.Searches.{orElse, firstOf, hasKey, earliest, allDistinct}
+use Rattle.run.specs.Found.{orElse}
+use Rattle.index.specs.Searches.{firstOf, hasKey, earliest, allDistinct}
 use Rattle.run.proofs.Tests.{both}
-use Rattle.run.proofs.Sameness.{same-true}
+use Rattle.run.proofs.Sameness.{same-self, same-true}
 
 -- ---- the first number that p holds of
 
@@ -44,10 +44,6 @@ module _ (p : ℕ → Bool) where
           record { within = omega arith; holds = rw here at q; before = λ j l. first-none n a j (omega arith) }
 
 -- ---- keys that all differ
-
-same-self : (s : List ℕ) → same s s ≡ true
-same-self [] = refl
-same-self (a ∷ s) = rw (eq-eqb a a refl) (same-self s)
 
 -- two of the first n records have one key
 pub record Twice (keys : Section) (s : List ℕ) (n : ℕ) : Type 0 where

@@ -4,16 +4,13 @@ use mathlib.Core.Bool.{Bool, true, cond, _&&_}
 use mathlib.Core.List.{List}
 use lib.Dec.{eqb}
 use Rattle.run.specs.Runs.{same}
+use Rattle.run.specs.Found.{orElse}
 use Rattle.section.specs.Sections.{recordOf}
 use Rattle.section.specs.declared.Section.{Section}
 
 -- record i has the key
 abbrev pub hasKey : Section → List ℕ → List ℕ → ℕ → Bool
 hasKey keys s key i = same (recordOf keys s i) key
-
-abbrev pub orElse : ℕ → ℕ → ℕ
-orElse zero b = b
-orElse (suc a) b = suc a
 
 -- one more than the first of the numbers below n that p holds of, or 0
 abbrev pub firstOf : (ℕ → Bool) → ℕ → ℕ

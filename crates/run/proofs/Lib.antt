@@ -2,7 +2,7 @@
 pub mod Tests
 -- What a loop over a run keeps
 pub mod Scan
--- All bytes of runs joined and cut, and of a wider test
+-- All bytes of runs joined and cut, of a wider test; a byte of one
 pub mod All
 -- A part before, after and inside a run of stores
 pub mod Parts
@@ -10,3 +10,5 @@ pub mod Parts
 pub mod Stores
 -- Two runs that the test takes for the same are equal
 pub mod Sameness
+-- A place or else none is that place
+pub mod Found

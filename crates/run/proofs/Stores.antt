@@ -2,7 +2,7 @@
 use Prim.Native.Nat.{ℕ, suc, _+_, _≤_, _<_}
 use mathlib.Core.Path.{_≡_, refl, ap, _∙_}
 use mathlib.Core.List.{List, [], _∷_, _++_, append-nil}
-use native.Mathlib.Nat.{add-zero}
+use native.Mathlib.Nat.{add-zero, zero-add}
 use native.Mathlib.Omega.{arith}
 use lib.ListN.{length, getD, drop, set, drop-of-length-le}
 use lib.Seq.{sets, sets-eq, set-comm}
@@ -26,6 +26,10 @@ sets-append l at n [] ys e = rw (← e, add-zero at)
 sets-append l at n (x ∷ xs) ys e =
     let k : at + n ≡ suc at + length xs = omega arith in
     rw k (sets-append (set l at x) (suc at) (length xs) xs ys refl)
+
+-- a run from the front on, and behind it what stood there
+pub sets-start : (l xs : List ℕ) → length xs ≤ length l → sets l 0 xs ≡ xs ++ drop (length xs) l
+sets-start l xs h = sets-eq xs l 0 (omega arith) ∙ rw zero-add
 
 -- a run over all of a buffer is what is there then
 pub sets-whole : (l xs : List ℕ) → length xs ≡ length l → sets l 0 xs ≡ xs

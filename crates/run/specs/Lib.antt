@@ -1,2 +1,4 @@
 -- Parts, sameness, and what holds of bytes
 pub mod Runs
+-- A place, or none
+pub mod Found

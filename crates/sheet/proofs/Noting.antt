@@ -11,17 +11,15 @@ use borrow.Author.Tests.{eqb-false, eqb-true, le-ltb, lt-ltb, ltb-false, ltb-tru
 use lib.Dec.{eqb, ltb}
 use lib.ListN.{length, drop, drop-of-length-le, getD, length-append, length-drop, length-set, set}
 use lib.Seq.{drop-append-le, getD-set-other, getD-set-same}
+use Rattle.run.specs.Found.{orElse}
+use Rattle.run.proofs.Found.{or-none}
 use Rattle.day.specs.Damage.{eldersOf}
 use Rattle.day.proofs.Listings.{by-test}
 use Rattle.slot.specs.Places.{ordersIn, slotAt}
-use Rattle.sheet.specs.Kin.{Kin, Notes, orElse, youngerOf}
+use Rattle.sheet.specs.Kin.{Kin, Notes, youngerOf}
 use Rattle.sheet.specs.Walk.{eldersIn, seek}
 use Rattle.sheet.proofs.Seeking.{elderIn, length-elders-in}
 use Rattle.sheet.proofs.Turning.{seek-from}
-
-or-none : (x : ℕ) → orElse x 0 ≡ x
-or-none zero = refl
-or-none (suc x) = refl
 
 or-first : (x y : ℕ) → 0 < x → orElse x y ≡ x
 or-first zero y h = absurd (omega arith)

@@ -1,10 +1,11 @@
 -- The younger order of each order, noted in one pass over their elders.
-use Prim.Native.Nat.{ℕ, zero, suc, _+_, _≤_, _<_}
+use Prim.Native.Nat.{ℕ, _+_, _≤_, _<_}
 use mathlib.Core.Path.{_≡_}
 use mathlib.Core.Bool.{cond}
 use mathlib.Core.List.{List}
 use lib.Dec.{ltb, eqb}
 use lib.ListN.{drop, getD, length}
+use Rattle.run.specs.Found.{orElse}
 use Rattle.slot.specs.Places.{slotAt}
 use Rattle.sheet.specs.Walk.{eldersIn, seek}
 
@@ -17,11 +18,6 @@ pub record Kin (n : ℕ) (s kin : List ℕ) : Type 0 where
   pub slots : slotAt n ≤ length s
   pub long : n ≤ length kin
   pub each : (i : ℕ) → i < n → getD kin i 0 ≡ youngerOf (eldersIn n s) i
-
--- the first of two that is not 0
-abbrev pub orElse : ℕ → ℕ → ℕ
-orElse zero y = y
-orElse (suc x) y = suc x
 
 -- one order more, at place i, whose elder is e: it is noted for its elder, unless one is noted there
 pub record Notes (i e : ℕ) (before after : List ℕ) : Type 0 where

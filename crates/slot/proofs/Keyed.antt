@@ -9,6 +9,7 @@ use lib.Dec.{eqb}
 use lib.ListN.{length, take, drop, length-drop, length-take}
 use lib.Seq.{take-all}
 use Rattle.run.specs.Runs.{part, same}
+use Rattle.run.specs.Found.{orElse}
 use Rattle.run.proofs.Parts.{part-part}
 use Rattle.order.specs.Names.{sameKey}
 use Rattle.order.specs.declared.Key.{Key}
@@ -19,7 +20,7 @@ use Rattle.section.specs.Sections.{recordOf, KeyOf}
 use Rattle.section.specs.declared.Section.{Section}
 use Rattle.section.proofs.Places.{key-in-record}
 use Rattle.section.proofs.Lists.{records-last, length-records}
-use Rattle.index.specs.Searches.{orElse, hasKey, earliest}
+use Rattle.index.specs.Searches.{hasKey, earliest}
 use Rattle.index.specs.Indexes.{Indexed}
 use Rattle.slot.specs.Slots.{slotWidth, keyIn, orderIn}
 use Rattle.slot.specs.Places.{slots, slotKeys, slot, ordersIn}

@@ -3,7 +3,7 @@ use Prim.Native.Nat.{ℕ, suc, _+_, _-_, _≤_, _<_}
 use native.Mathlib.Nat.{sub-zero}
 use native.Mathlib.Omega.{arith}
 use mathlib.Core.Path.{_≡_, refl, sym, ap, _∙_}
-use mathlib.Core.Bool.{Bool, true, false, not, _&&_, _||_}
+use mathlib.Core.Bool.{Bool, true, false, not, _&&_, _||_, or-comm}
 use mathlib.Core.List.{List, [], _∷_, _++_, map-append}
 use borrow.Author.Tests.{leb-true, le-leb, eqb-true}
 use lib.Dec.{leb, eqb}
@@ -13,7 +13,7 @@ use Rattle.order.specs.declared.Order.{Order}
 use Rattle.day.specs.Damage.{eldersOf, openAt, undamaged}
 use Rattle.order.specs.Stored.{soundOrder}
 use Rattle.run.proofs.Tests.{both, either}
-use Rattle.day.proofs.Orders.{length-elders, sole-member}
+use Rattle.day.proofs.Orders.{length-elders, sole-member, member-behind}
 use Rattle.day.proofs.Undamaged.{Undamaged, apart, whole, behind}
 use Rattle.table.specs.Passing.{Marks, isMarked, roomIn, openIn, slotFits, elderFits}
 use Rattle.slot.specs.Slots.{orderIn}
@@ -22,7 +22,7 @@ use Rattle.table.specs.Tables.{countIn, limitOf, tableIn, tailZero, tail
 use Rattle.slot.proofs.Laws.{length-orders}
 use Rattle.table.proofs.Limits.{mostLimit, limit-most}
 use Rattle.table.proofs.Marking.{none-marked}
-use Rattle.table.proofs.Splits.{open-orders, orders-at, sound-among, earlier-among, closed-among, unshared-among, member-behind}
+use Rattle.table.proofs.Splits.{open-orders, orders-at, sound-among, earlier-among, closed-among, unshared-among}
 
 -- i slots are passed: their orders are undamaged, their elders are marked, and the tails of the others decide
 pub record Passed (s flags : List ℕ) (i : ℕ) : Type 0 where
@@ -145,5 +145,5 @@ module _ {s flags : List ℕ} {i : ℕ} {o : Order} (p : Passed s flags i) (h : 
               rw one-more
               (behind o (p .orders) (omega arith) (omega arith) (sole-member e (eldersOf os) (rw (p .marks e) at free)) shut-there (a .1));
           room = m .room ∙ p .room;
-          marks = λ x. m .says x ∙ rw (p .marks x, one-more, elders) (sym (member-behind x (eldersOf os) e));
+          marks = λ x. m .says x ∙ rw (p .marks x, one-more, elders) (or-comm (eqb x e) (member x (eldersOf os)) ∙ sym (member-behind x (eldersOf os) e));
         }

@@ -3,7 +3,7 @@ use Prim.Native.Nat.{ℕ, zero, suc, _+_, _-_, _≤_, _<_}
 use native.Mathlib.Nat.{zero-add, suc-add}
 use native.Mathlib.Omega.{arith}
 use mathlib.Core.Path.{_≡_, refl, ap}
-use mathlib.Core.Bool.{Bool, true, false, not, _||_, or-true, or-assoc, or-comm}
+use mathlib.Core.Bool.{Bool, true, false, not, _||_, or-true}
 use mathlib.Core.List.{List, [], _∷_, _++_}
 use borrow.Author.Tests.{leb-true, eqb-true, eq-eqb}
 use lib.Dec.{leb, eqb}
@@ -50,10 +50,6 @@ closed-among os (x ∷ xs) e ys c =
 member-among : (xs : List ℕ) (e : ℕ) (ys : List ℕ) → member e (xs ++ (e ∷ ys)) ≡ true
 member-among [] e ys = rw (eq-eqb e e refl)
 member-among (x ∷ xs) e ys = rw (member-among xs e ys) (or-true (eqb e x))
-
-pub member-behind : (b : ℕ) (xs : List ℕ) (e : ℕ) → member b (xs ++ (e ∷ [])) ≡ (eqb b e || member b xs)
-member-behind b [] e = refl
-member-behind b (x ∷ xs) e = rw (member-behind b xs e, ← or-assoc (eqb b x) (eqb b e) (member b xs), or-comm (eqb b x) (eqb b e), or-assoc)
 
 -- the definition looks forward, a pass looks back
 pub unshared-among : (xs : List ℕ) (e : ℕ) (ys : List ℕ) → unshared (xs ++ (e ∷ ys)) ≡ true → sole e xs ≡ true
