@@ -22,8 +22,8 @@ use Rattle.row.specs.Writes.{Wrote}
 use Rattle.slot.specs.Places.{ordersIn}
 use Rattle.slot.proofs.Laws.{length-orders}
 use Rattle.table.specs.Tables.{countIn, sound, tableIn}
-use Rattle.sheet.specs.Pages.{Pages, pageAnswer, pageFrom, pageOf, pageOfSheet, rowByRow}
-use Rattle.sheet.specs.Promises.{textOf, sheetWrittenOf}
+use Rattle.sheet.specs.Pages.{Pages, pageOf, pageOfSheet, rowByRow}
+use Rattle.sheet.specs.Promises.{textOf, sheetWrittenOf, textAnswer, textFrom}
 use Rattle.sheet.specs.Texts.{rowsText}
 use Rattle.sheet.specs.Walk.{eldersIn, membersLeft, stretchText, textLeft}
 use Rattle.sheet.specs.declared.Turn.{Turn}
@@ -113,13 +113,12 @@ heading-and-rows s e =
 -- ---- the answers
 
 module _ (text before : List ℕ) where
-  fitted : (t : Bool) → ltb (length before) (length text) ≡ t → pageAnswer text before ≡ cond t (refused 4 0) (value (length text))
-  unfolding pageAnswer
+  fitted : (t : Bool) → ltb (length before) (length text) ≡ t → textAnswer text before ≡ cond t (refused 4 0) (value (length text))
   fitted t e = rw e
 
-  answered : (after : List ℕ) (x : SheetWritten) (answer : Answer ℕ) → pageAnswer text before ≡ answer → sheetWrittenOf x ≡ answer
-      → after ≡ pageFrom answer text before → Pages text before x after
-  answered after x answer e p q = record { said = p ∙ sym e; out = q ∙ ap (λ (a : Answer ℕ). pageFrom a text before) (sym e) }
+  answered : (after : List ℕ) (x : SheetWritten) (answer : Answer ℕ) → textAnswer text before ≡ answer → sheetWrittenOf x ≡ answer
+      → after ≡ textFrom answer text before → Pages text before x after
+  answered after x answer e p q = record { said = p ∙ sym e; out = q ∙ ap (λ (a : Answer ℕ). textFrom a text before) (sym e) }
 
   module _ (r : Bool) (e : r ≡ leb (length text) (length before)) where
     pub page-refused : r ≡ false → Pages text before (Refused NoRoom) before

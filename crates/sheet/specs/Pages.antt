@@ -1,16 +1,12 @@
 -- A page of the sheet: so many of its rows, from a row on. One row is a page too, which a later request (02, ticket 10) writes by its number.
 use Prim.Native.Nat.{ℕ, zero, suc, _+_}
 use mathlib.Core.Path.{_≡_}
-use mathlib.Core.Bool.{cond}
 use mathlib.Core.List.{List, [], _++_}
-use lib.Dec.{ltb}
-use lib.ListN.{drop, length, take}
-use lib.Seq.{sets}
-use Rattle.refusal.specs.Answer.{Answer, value, refused}
+use lib.ListN.{drop, take}
 use Rattle.day.specs.Listing.{Sheet}
 use Rattle.day.specs.Walk.{sheetOf}
 use Rattle.table.specs.Tables.{tableIn}
-use Rattle.sheet.specs.Promises.{sheetWrittenOf}
+use Rattle.sheet.specs.Promises.{sheetWrittenOf, textAnswer, textFrom}
 use Rattle.sheet.specs.Texts.{rowsText}
 use Rattle.sheet.specs.declared.SheetWritten.{SheetWritten}
 
@@ -27,15 +23,7 @@ abbrev pub rowByRow : List ℕ → ℕ → ℕ → List ℕ
 rowByRow s passed zero = []
 rowByRow s passed (suc k) = pageOf s passed 1 ++ rowByRow s (passed + 1) k
 
-unfoldable pub pageAnswer : List ℕ → List ℕ → Answer ℕ
-pageAnswer text before = cond (ltb (length before) (length text)) (refused 4 0) (value (length text))
-
--- only the bytes it needs, from the front; refused, not one
-abbrev pub pageFrom : Answer ℕ → List ℕ → List ℕ → List ℕ
-pageFrom (value n) text before = sets before 0 text
-pageFrom (refused n f) text before = before
-
 -- `sheet::page_sound`, of the text of a page
 pub record Pages (text before : List ℕ) (x : SheetWritten) (after : List ℕ) : Type 0 where
-  pub said : sheetWrittenOf x ≡ pageAnswer text before
-  pub out : after ≡ pageFrom (pageAnswer text before) text before
+  pub said : sheetWrittenOf x ≡ textAnswer text before
+  pub out : after ≡ textFrom (textAnswer text before) text before

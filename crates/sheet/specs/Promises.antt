@@ -21,15 +21,21 @@ abbrev pub sheetWrittenOf : SheetWritten → Answer ℕ
 sheetWrittenOf (Done n) = value n
 sheetWrittenOf (Refused x) = refusedBy x
 
--- 01, Order of checks: Sheet: 5, 4
-unfoldable pub sheetAnswer : List ℕ → List ℕ → Answer ℕ
-sheetAnswer s before =
-    cond (sound s) (cond (ltb (length before) (length (textOf s))) (refused 4 0) (value (length (textOf s)))) (refused 5 0)
+-- 01, Refusals by number: 4: a text into a lent buffer
+abbrev pub textAnswer : List ℕ → List ℕ → Answer ℕ
+textAnswer text before = cond (ltb (length before) (length text)) (refused 4 0) (value (length text))
 
 -- only the bytes it needs, from the front; refused, not one
+abbrev pub textFrom : Answer ℕ → List ℕ → List ℕ → List ℕ
+textFrom (value n) text before = sets before 0 text
+textFrom (refused n f) text before = before
+
+-- 01, Order of checks: Sheet: 5, 4
+unfoldable pub sheetAnswer : List ℕ → List ℕ → Answer ℕ
+sheetAnswer s before = cond (sound s) (textAnswer (textOf s) before) (refused 5 0)
+
 abbrev pub sheetFrom : Answer ℕ → List ℕ → List ℕ → List ℕ
-sheetFrom (value n) s before = sets before 0 (textOf s)
-sheetFrom (refused n f) s before = before
+sheetFrom answer s before = textFrom answer (textOf s) before
 
 -- `sheet::write`: `after` is the lent buffer when it returns
 pub record Sheets (table before : List ℕ) (x : SheetWritten) (after : List ℕ) : Type 0 where
