@@ -7,10 +7,11 @@ use mathlib.Core.Bool.{Bool, true, false, cond, _&&_, and-assoc}
 use mathlib.Core.List.{List, [], _∷_, _++_}
 use lib.Dec.{eqb}
 use lib.ListN.{length, take, drop, length-drop, length-take}
-use lib.Seq.{take-all}
+use lib.Seq.{sets, take-all, take-at, drop-at}
 use Rattle.run.specs.Runs.{part, same}
 use Rattle.run.specs.Found.{orElse}
 use Rattle.run.proofs.Parts.{part-part}
+use Rattle.run.proofs.Stores.{sets-whole}
 use Rattle.order.specs.Names.{sameKey}
 use Rattle.order.specs.declared.Key.{Key}
 use Rattle.order.specs.declared.Order.{Order}
@@ -22,8 +23,9 @@ use Rattle.section.proofs.Places.{key-in-record}
 use Rattle.section.proofs.Lists.{records-last, length-records}
 use Rattle.index.specs.Searches.{hasKey, earliest}
 use Rattle.index.specs.Indexes.{Indexed}
-use Rattle.slot.specs.Slots.{slotWidth, keyIn, orderIn}
+use Rattle.slot.specs.Slots.{slotWidth, keyIn, keyBytes, orderIn}
 use Rattle.slot.specs.Places.{slots, slotKeys, slot, ordersIn}
+use Rattle.slot.proofs.Runs.{length-key}
 
 pub keys-of-slots : KeyOf slotKeys slots
 keys-of-slots = record { steps = refl; from = omega arith; upto = omega arith }
@@ -59,6 +61,14 @@ slot-has : (s : List ℕ) (i : ℕ) (key : List ℕ) → length key ≡ 26 → s
 slot-has s i key e =
     ap (λ k. sameKey k (keyIn key)) (slot-key s i)
     ∙ same-keys (recordOf slotKeys s i) key (omega (arith, length-take 26 (drop (8 + slotWidth * i) s))) (omega arith)
+
+-- a key stored over all of a run of its length
+pub key-joined : (l b : List ℕ) (k : Key) → length l ≡ 26 → length (k .source) ≡ 6 → length (k .token) ≡ 20 → b ≡ sets l 0 (keyBytes k) → keyIn b ≡ k
+key-joined l b k w e f g =
+    let whole : b ≡ keyBytes k = g ∙ sets-whole l (keyBytes k) (length-key k e f ∙ sym w) in
+    let behind : part (keyBytes k) 6 20 ≡ k .token =
+    ap (take 20) (drop-at (k .source) (k .token) 6 e) ∙ take-all 20 (k .token) (omega arith) in
+    rw whole (λ i. record { source = take-at (k .source) (k .token) 6 e i; token = behind i })
 
 -- ---- all orders
 

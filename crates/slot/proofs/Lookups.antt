@@ -1,7 +1,7 @@
 -- What the place that a lookup answers says of the orders: which one is found, and which one a change by key changes.
 use Prim.Native.Nat.{ℕ, zero, suc, _+_, _<_}
 use native.Mathlib.Omega.{arith}
-use mathlib.Core.Path.{_≡_, refl, sym, ap, ap₂, _∙_}
+use mathlib.Core.Path.{_≡_, refl, sym, ap, _∙_}
 use mathlib.Core.Bool.{Bool, true, false, cond}
 use mathlib.Core.List.{List, [], _∷_}
 use lib.ListN.{length, getD, set}
@@ -62,7 +62,11 @@ nobody-found k (o ∷ os) e = go (sameKey (o .key) k) (place k os) (nobody-found
     go false zero ih e = ih refl
     go false (suc p) ih e = absurd (omega arith)
 
--- the answer of a search for k among the first n, q being what it is known to be
+-- the answer of a search for k, q being what it is known to be
+pub place-known : (os : List Order) (p q : Place) (k l : Key) → placeNo p ≡ place k os → p ≡ q → k ≡ l → place l os ≡ placeNo q
+place-known os p q k l e f g = sym (ap (λ x. place x os) g) ∙ sym e ∙ ap placeNo f
+
+-- the same of a search among the first n
 pub place-is : (s : List ℕ) (p q : Place) (k l : Key) (n m : ℕ) → placeNo p ≡ place k (ordersIn 0 n s) → p ≡ q → k ≡ l → n ≡ m
     → place l (ordersIn 0 m s) ≡ placeNo q
-place-is s p q k l n m e f g h = sym (ap₂ (λ x y. place x (ordersIn 0 y s)) g h) ∙ sym e ∙ ap placeNo f
+place-is s p q k l n m e f g h = sym (ap (λ i. place l (ordersIn 0 i s)) h) ∙ place-known (ordersIn 0 n s) p q k l e f g

@@ -7,6 +7,7 @@ mod write;
 pub use lookup::find;
 pub use lookup::find_indexed;
 pub use lookup::find_key;
+pub use lookup::find_key_indexed;
 pub use lookup::keys;
 pub use read::elder_at;
 pub use read::figures_in;

@@ -13,6 +13,7 @@ use crate::KEY;
 use crate::Place;
 use crate::SLOT;
 use crate::offset;
+use crate::write;
 use order::Key;
 use section::Section;
 
@@ -75,4 +76,14 @@ pub fn find_indexed(t: &[u8], n: usize, heads: &[u16], nexts: &[u16], key: &[u8]
         return Place::Nobody;
     }
     Place::At(found - 1)
+}
+
+// The same, for a caller that has a Key.
+pub fn find_key_indexed(t: &[u8], n: usize, heads: &[u16], nexts: &[u16], k: Key) -> Place
+    requires { ⌜ Indexed slotKeys (now t) n (now heads) (now nexts) ⌝ }
+    ensures { λ r. ⌜ placeNo r ≡ place k (ordersIn 0 n (now (t .entry))) ⌝ }
+{
+    let mut key = [0u8; KEY];
+    write::put_key(&mut key, 0, k);
+    find_indexed(t, n, heads, nexts, &key)
 }

@@ -13,9 +13,9 @@ use order::Key;
 use order::Order;
 use order::Series;
 
-// In all of these a slot begins at `at`.
-fn put_key(t: &mut [u8], at: usize, k: Key)
-    requires { ⌜ at + slotWidth ≤ length (now t) ⌝ }
+// A key at the front of a slot, or alone.
+pub fn put_key(t: &mut [u8], at: usize, k: Key)
+    requires { ⌜ at + 26 ≤ length (now t) ⌝ }
     ensures { λ _. ⌜ now (t .exit) ≡ sets (now (t .entry)) at (keyBytes k) ⌝ }
 {
     let source = k.source;
@@ -24,7 +24,7 @@ fn put_key(t: &mut [u8], at: usize, k: Key)
     run::store(t, at + offset::TOKEN, &token);
 }
 
-// The first nine bytes of a series. A function of its own, since the prover reads only so many facts of one.
+// In all that follow a slot begins at `at`. The first nine bytes of a series. A function of its own, since the prover reads only so many facts of one.
 fn put_expiry(t: &mut [u8], at: usize, s: Series)
     requires { ⌜ at + slotWidth ≤ length (now t) ⌝ }
     ensures { λ _. ⌜ now (t .exit) ≡ sets (now (t .entry)) (at + 27) (expiryBytes s) ⌝ }

@@ -138,6 +138,11 @@ module _ (s : List ℕ) (o : Order) where
   abbrev counted : List ℕ
   counted = leBytes 4 (countIn s + 1)
 
+  pub count-appended : countIn s < limitOf (length s) → countIn (appended o s) ≡ countIn s + 1
+  count-appended room =
+      ap le (part-whole stored counted 0 4 (omega (arith, same-length s (countIn s) o, slot-inside (length s) (countIn s) room)) refl)
+      ∙ le-written 4 (countIn s + 1) (omega (arith, limit-small (length s)))
+
   pub appended-holds : {t : Table} → Holds s t → length (t .orders) < limitOf (length s) → Fits o
       → Holds (appended o s) (withOrders (t .orders ++ (o ∷ [])) t)
   appended-holds {t} h room f =
@@ -165,9 +170,7 @@ module _ (s : List ℕ) (o : Order) where
       long = length-appended o s
 
       count : countIn (appended o s) ≡ countIn s + 1
-      count =
-          ap le (part-whole stored counted 0 4 (omega (arith, same-length s (countIn s) o, inside)) refl)
-          ∙ le-written 4 (countIn s + 1) (omega (arith, its-count, limit-small (length s)))
+      count = count-appended (omega (arith, its-count))
 
       mark : getD (appended o s) 4 0 ≡ getD s 4 0
       mark =

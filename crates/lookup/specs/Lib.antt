@@ -1,0 +1,2 @@
+-- The index of a table's keys beside it, or none
+pub mod Beside

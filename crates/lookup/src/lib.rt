@@ -1,0 +1,70 @@
+// The orders of a lent table by key, and one order more. A lookup goes by the index of the keys where one stands beside the table, else by a scan.
+ghost use Prim.Native.Nat.{_*_, _≤_, _<_};
+ghost use mathlib.Core.Path.{_≡_};
+ghost use mathlib.Core.Bool.{true};
+ghost use lib.ListN.{length};
+ghost use Rattle.day.specs.Machine.{place};
+ghost use Rattle.slot.specs.Places.{placeNo};
+ghost use Rattle.table.specs.Changes.{appended};
+ghost use Rattle.table.specs.Tables.{countIn, leastLimit, limitOf, sound, tableIn};
+ghost use Rattle.lookup.specs.Beside.{Beside};
+use order::Key;
+use order::Order;
+use slot::Place;
+use table::header;
+
+// Four buckets an order, so that few orders share one.
+pub const HEADS: usize = 4 * NEXTS;
+
+pub const NEXTS: usize = table::LIMIT as usize;
+
+// Where an index of a table of the least limit is kept. Each `ensures` is what lending the array needs.
+pub fn heads_buffer() -> [u16; HEADS]
+    ensures { λ r. ⌜ 4 * leastLimit ≡ length r ⌝ }
+{
+    [0; HEADS]
+}
+
+pub fn nexts_buffer() -> [u16; NEXTS]
+    ensures { λ r. ⌜ leastLimit ≡ length r ⌝ }
+{
+    [0; NEXTS]
+}
+
+// The earliest order with a key.
+pub fn find(t: &[u8], heads: &[u16], nexts: &[u16], k: Key) -> Place
+    requires { ⌜ sound (now t) ≡ true ⌝ }
+    requires { ⌜ Beside (now t) (now heads) (now nexts) ⌝ }
+    ensures { λ r. ⌜ placeNo r ≡ place k (tableIn (now (t .entry)) .orders) ⌝ }
+{
+    let n = header::count(t) as usize;
+    if heads.len() == 0 {
+        return slot::find_key(t, n, k);
+    }
+    slot::find_key_indexed(t, n, heads, nexts, k)
+}
+
+// One order more, entered in the index where there is one.
+pub fn append(t: &mut [u8], heads: &mut [u16], nexts: &mut [u16], o: Order)
+    requires { ⌜ countIn (now t) < limitOf (length (now t)) ⌝ }
+    requires { ⌜ Beside (now t) (now heads) (now nexts) ⌝ }
+    ensures { λ _. ⌜ now (t .exit) ≡ appended o (now (t .entry)) ⌝ }
+    ensures { λ _. ⌜ Beside (now (t .exit)) (now (heads .exit)) (now (nexts .exit)) ⌝ }
+{
+    let n = header::count(t) as usize;
+    table::append(t, o);
+    if heads.len() == 0 {
+        return;
+    }
+    index::enter(t, slot::keys(), n, heads, nexts);
+}
+
+// The index of a table's orders, whatever the scratch held.
+pub fn build(t: &[u8], heads: &mut [u16], nexts: &mut [u16])
+    requires { ⌜ sound (now t) ≡ true ⌝ }
+    requires { ⌜ 1 ≤ length (now heads) ⌝ }
+    requires { ⌜ limitOf (length (now t)) ≤ length (now nexts) ⌝ }
+    ensures { λ _. ⌜ Beside (now (t .entry)) (now (heads .exit)) (now (nexts .exit)) ⌝ }
+{
+    index::build(t, slot::keys(), header::count(t) as usize, heads, nexts);
+}
