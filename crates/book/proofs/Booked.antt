@@ -1,9 +1,11 @@
 -- The ways out of booking a piece, each as the promise says it.
-use Prim.Native.Nat.{ℕ, _+_}
-use mathlib.Core.Path.{_≡_, ap, ap₂, _∙_}
-use mathlib.Core.Bool.{true, false}
+use Prim.Native.Nat.{ℕ, _+_, _<_}
+use mathlib.Core.Path.{_≡_, refl, ap, ap₂, _∙_}
+use mathlib.Core.Bool.{Bool, true, false, cond}
 use mathlib.Core.List.{List, [], _∷_}
 use native.Mathlib.Omega.{arith}
+use lib.Dec.{eqb}
+use lib.ListN.{length}
 use lib.Seq.{sets, length-sets}
 use Rattle.cell.specs.Cells.{le}
 use Rattle.refusal.specs.Answer.{value, refusedBy}
@@ -15,14 +17,16 @@ use Rattle.line.specs.Promises.{saidOf}
 use Rattle.line.specs.declared.Outcome.{Outcome}
 use Rattle.order.specs.declared.Figures.{Figures}
 use Rattle.order.specs.declared.Order.{Order}
-use Rattle.day.specs.Machine.{withFigures, newOrder}
+use Rattle.day.specs.Machine.{refusalOf, withFigures, withPrice, newOrder}
 use Rattle.slot.specs.Slots.{orderIn, slotBytes}
 use Rattle.slot.specs.Places.{slot, slotAt, SlotInside}
 use Rattle.table.specs.Changes.{changedAt, appended}
-use Rattle.table.specs.Tables.{countIn, sound, tableIn}
+use Rattle.table.specs.Tables.{countIn, limitOf, sound, tableIn}
+use Rattle.lookup.specs.Beside.{Beside}
+use Rattle.lookup.proofs.Beside.{over-beside, changed-beside}
 use Rattle.slot.proofs.Laws.{header-kept}
 use Rattle.book.specs.Bytes.{bookBytes, bookAnswer}
-use Rattle.book.specs.Plans.{refigured, Plans, BooksSaid, answerOf, afterPlan}
+use Rattle.book.specs.Plans.{refigured, Plans, RoomFor, Carried, BooksSaid, answerOf, afterPlan}
 use Rattle.book.specs.Promises.{Books, bookingOf}
 use Rattle.book.specs.declared.Booking.{Booking}
 use Rattle.book.specs.declared.Booking.the-variants.{Booked, Refused}
@@ -35,12 +39,20 @@ pub one-changed : (s : List ℕ) (i : ℕ) (g : Order → Order) (o : Order) →
     → sets s (slotAt i) (slotBytes (g o)) ≡ changedAt i g s
 one-changed s i g o e = ap (λ x. sets s (slotAt i) (slotBytes (g x))) e
 
--- a changed order leaves the free slot where it was
-pub free-kept : (s u : List ℕ) (i : ℕ) (f : Figures) → u ≡ refigured i f s → SlotInside (countIn s) s → SlotInside (countIn u) u
-free-kept s u i f e h =
-    let b = slotBytes (withFigures (λ (old : Figures). f) (orderIn (slot s i))) in
-    let kept : countIn (sets s (slotAt i) b) ≡ countIn s = ap le (header-kept s b i 0 4 (omega arith)) in
-    rw (e, kept, length-sets s (slotAt i) b) h
+-- a changed order leaves the free slot where it was, and the index beside the table
+module _ (s u : List ℕ) (i : ℕ) where
+  pub free-kept : (f : Figures) → u ≡ refigured i f s → countIn s < limitOf (length s) → countIn u < limitOf (length u)
+  free-kept f e h =
+      let b = slotBytes (withFigures (λ (old : Figures). f) (orderIn (slot s i))) in
+      let kept : countIn (sets s (slotAt i) b) ≡ countIn s = ap le (header-kept s b i 0 4 (omega arith)) in
+      rw (e, kept, length-sets s (slotAt i) b) h
+
+  module _ {heads nexts : List ℕ} (h : SlotInside i s) (x : Beside s heads nexts) where
+    pub refigured-beside : (f : Figures) → u ≡ refigured i f s → Beside u heads nexts
+    refigured-beside f e = rw e (changed-beside x i (withFigures (λ (old : Figures). f)) h refl refl)
+
+    pub repriced-beside : (p : ℕ) → u ≡ changedAt i (withPrice p) s → Beside u heads nexts
+    repriced-beside p e = rw e (changed-beside x i (withPrice p) h refl refl)
 
 -- the elder's figures, then the order that names it
 pub one-replaced : (s u v : List ℕ) (i : ℕ) (f : Figures) (r : Record) (o : Order) → u ≡ refigured i f s → o ≡ newOrder r (r .contracts) (i + 1) → v ≡ appended o u
@@ -52,9 +64,16 @@ one-replaced s u v i f r o e k g = g ∙ ap₂ appended k e
 pub plan-is : (s : List ℕ) (r : Record) (q p : Plan) → Plans s r q → q ≡ p → Plans s r p
 plan-is s r q p h e = rw e at h
 
-pub carried : (s : List ℕ) (r : Record) (p : Plan) (b : Booking) (after : List ℕ) → Plans s r p → bookingOf b ≡ answerOf p
-    → after ≡ afterPlan p r s → BooksSaid s (line r) b after
-carried s r p b after plan e f = record { said = e ∙ plan .said; out = f ∙ plan .out }
+-- the plan that is carried out, p, is known to be q
+pub room-for : (s : List ℕ) (p q : Plan) → p ≡ q → RoomFor p s → RoomFor q s
+room-for s p q e h = rw e at h
+
+pub carried : (s : List ℕ) (r : Record) (p q : Plan) (b : Booking) (after : List ℕ) → p ≡ q → bookingOf b ≡ answerOf q → after ≡ afterPlan q r s
+    → Carried s p r b after
+carried s r p q b after e said out = rw e (record { said = said; out = out })
+
+pub planned : {s : List ℕ} {r : Record} {p : Plan} {b : Booking} {after : List ℕ} → Plans s r p → Carried s p r b after → BooksSaid s (line r) b after
+planned plan c = record { said = c .said ∙ plan .said; out = c .out ∙ plan .out }
 
 -- ---- end of day
 
@@ -63,6 +82,13 @@ over-before s e = record { said = rw e; out = rw e }
 
 pub over-now : (s after : List ℕ) → tableIn s .over ≡ false → after ≡ sets s 4 (1 ∷ []) → BooksSaid s endOfDay Booked after
 over-now s after e f = record { said = rw e; out = rw e f }
+
+pub end-beside : {s : List ℕ} {b : Booking} {after heads nexts : List ℕ} → BooksSaid s endOfDay b after → Beside s heads nexts → Beside after heads nexts
+end-beside {s} {heads = heads} {nexts = nexts} k x = rw (k .out) (go (eqb (refusalOf (limitOf (length s)) (tableIn s) endOfDay) 0))
+  where
+    go : (t : Bool) → Beside (cond t (sets s 4 (1 ∷ [])) s) heads nexts
+    go true = over-beside x
+    go false = x
 
 -- ---- a piece
 

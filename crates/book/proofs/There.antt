@@ -1,5 +1,5 @@
 -- What a sound table gives to a line: at the place that a lookup answers an order with sound figures, and a free slot where it is not full.
-use Prim.Native.Nat.{ℕ, _+_}
+use Prim.Native.Nat.{ℕ, _+_, _<_}
 use native.Mathlib.Nat.{zero-add}
 use native.Mathlib.Omega.{arith}
 use mathlib.Core.Path.{_≡_, sym, ap, _∙_}
@@ -42,7 +42,5 @@ there s k i o e p q =
     }
 
 -- a table that is not full has a free slot
-pub free : (s : List ℕ) → leb (limitOf (length s)) (length (tableIn s .orders)) ≡ false → SlotInside (countIn s) s
-free s e =
-    let n = length-orders 0 (countIn s) s in
-    slot-inside (length s) (countIn s) (omega (arith, leb-false (limitOf (length s)) (length (tableIn s .orders)) e))
+pub free : (s : List ℕ) → leb (limitOf (length s)) (length (tableIn s .orders)) ≡ false → countIn s < limitOf (length s)
+free s e = omega (arith, length-orders 0 (countIn s) s, leb-false (limitOf (length s)) (length (tableIn s .orders)) e)

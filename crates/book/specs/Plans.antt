@@ -1,5 +1,5 @@
 -- What a plan for a line is, and what carrying it out does to the bytes of a table.
-use Prim.Native.Nat.{ℕ, _+_}
+use Prim.Native.Nat.{ℕ, _+_, _<_}
 use mathlib.Core.Path.{_≡_}
 use mathlib.Core.Bool.{Bool, cond, _&&_}
 use mathlib.Core.List.{List}
@@ -60,19 +60,24 @@ afterPlan (Change i f) r s = refigured i f s
 afterPlan (Price i p) r s = changedAt i (withPrice p) s
 afterPlan (Replace i f) r s = appended (newOrder r (r .contracts) (i + 1)) (refigured i f s)
 
--- the slots that a plan stores to are inside the table
+-- the slots that a plan stores to are inside the table, and it has room for one order more where the plan makes one
 abbrev pub RoomFor : Plan → List ℕ → Type 0
 RoomFor (No x) s = Unit {0}
-RoomFor New s = SlotInside (countIn s) s
+RoomFor New s = countIn s < limitOf (length s)
 RoomFor (Change i f) s = SlotInside i s
 RoomFor (Price i p) s = SlotInside i s
-RoomFor (Replace i f) s = SlotInside i s × SlotInside (countIn s) s
+RoomFor (Replace i f) s = SlotInside i s × (countIn s < limitOf (length s))
 
 -- a plan for a line
 pub record Plans (s : List ℕ) (r : Record) (p : Plan) : Type 0 where
   pub said : answerOf p ≡ bookSaid (limitOf (length s)) (tableIn s) (line r) .answer
   pub out : afterPlan p r s ≡ saidBytes (line r) s
   pub room : RoomFor p s
+
+-- a plan carried out
+pub record Carried (before : List ℕ) (p : Plan) (r : Record) (b : Booking) (after : List ℕ) : Type 0 where
+  pub said : bookingOf b ≡ answerOf p
+  pub out : after ≡ afterPlan p r before
 
 -- booking what a piece says into an undamaged table
 pub record BooksSaid (before : List ℕ) (x : Said) (b : Booking) (after : List ℕ) : Type 0 where

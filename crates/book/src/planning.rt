@@ -8,6 +8,7 @@ ghost use Rattle.order.specs.Names.{keyOf};
 ghost use Rattle.day.specs.History.{isNew, isMaker};
 ghost use Rattle.day.specs.Machine.{found, find, isFound, notOpen, notExecuted};
 ghost use Rattle.table.specs.Tables.{limitOf, tableIn, sound};
+ghost use Rattle.lookup.specs.Beside.{Beside};
 ghost use Rattle.book.specs.Plans.{Plans, planAbout, planBy};
 use crate::Plan;
 use crate::conditions;
@@ -19,19 +20,20 @@ use slot::Place;
 use table::header;
 
 // 6 and 7 first, as 01 has them. Of an A only 12 is left then; any other line is about an order of the table.
-pub fn plan(t: &[u8], r: Record) -> Plan
+pub fn plan(t: &[u8], heads: &[u16], nexts: &[u16], r: Record) -> Plan
     requires { ⌜ sound (now t) ≡ true ⌝ }
+    requires { ⌜ Beside (now t) (now heads) (now nexts) ⌝ }
     ensures { λ p. ⌜ Plans (now (t .entry)) r p ⌝ }
 {
     if header::is_over(t) {
         return Plan::No(Refusal::DayOver);
     }
-    if is_taken(t, r) {
+    if is_taken(t, heads, nexts, r) {
         return Plan::No(Refusal::KnownKey);
     }
     let event = r.event;
     if !conditions::is_new(event) {
-        return plan_older(t, r);
+        return plan_older(t, heads, nexts, r);
     }
     if is_full(t) {
         return Plan::No(Refusal::Full);
@@ -40,15 +42,16 @@ pub fn plan(t: &[u8], r: Record) -> Plan
 }
 
 // Whether a line would make an order with a key that is in the table.
-fn is_taken(t: &[u8], r: Record) -> bool
+fn is_taken(t: &[u8], heads: &[u16], nexts: &[u16], r: Record) -> bool
     requires { ⌜ sound (now t) ≡ true ⌝ }
+    requires { ⌜ Beside (now t) (now heads) (now nexts) ⌝ }
     ensures { λ x. ⌜ x ≡ (isMaker (r .event) && isFound (find (keyOf r) (tableIn (now (t .entry)) .orders))) ⌝ }
 {
     let event = r.event;
     if !conditions::is_maker(event) {
         return false;
     }
-    let Place::At(_) = slot::find_key(t, header::count(t) as usize, order::key_of(r)) else {
+    let Place::At(_) = lookup::find(t, heads, nexts, order::key_of(r)) else {
         return false;
     };
     true
@@ -62,14 +65,15 @@ fn is_full(t: &[u8]) -> bool
 }
 
 // A line about an order of the table.
-fn plan_older(t: &[u8], r: Record) -> Plan
+fn plan_older(t: &[u8], heads: &[u16], nexts: &[u16], r: Record) -> Plan
     requires { ⌜ sound (now t) ≡ true ⌝ }
+    requires { ⌜ Beside (now t) (now heads) (now nexts) ⌝ }
     requires { ⌜ tableIn (now t) .over ≡ false ⌝ }
     requires { ⌜ (isMaker (r .event) && isFound (find (keyOf r) (tableIn (now t) .orders))) ≡ false ⌝ }
     requires { ⌜ isNew (r .event) ≡ false ⌝ }
     ensures { λ p. ⌜ Plans (now (t .entry)) r p ⌝ }
 {
-    let Place::At(i) = slot::find_key(t, header::count(t) as usize, conditions::subject(r)) else {
+    let Place::At(i) = lookup::find(t, heads, nexts, conditions::subject(r)) else {
         return Plan::No(Refusal::UnknownKey);
     };
     plan_about(i, slot::order_at(t, i), r, is_full(t))

@@ -6,7 +6,8 @@ ghost use Rattle.day.specs.Machine.{newOrder, withPrice};
 ghost use Rattle.table.specs.Changes.{changedAt};
 ghost use Rattle.slot.specs.Places.{SlotInside};
 ghost use Rattle.table.specs.Tables.{sound};
-ghost use Rattle.book.specs.Plans.{BooksSaid, refigured};
+ghost use Rattle.lookup.specs.Beside.{Beside};
+ghost use Rattle.book.specs.Plans.{BooksSaid, Carried, RoomFor, refigured};
 ghost use Rattle.book.specs.Promises.{Books};
 use crate::Booking;
 use crate::Plan;
@@ -26,19 +27,24 @@ pub fn book(t: &mut [u8], piece: &[u8]) -> Booking
     if !damage::is_sound(t) {
         return Booking::Refused(Refusal::Damaged);
     }
-    book_sound(t, piece)
+    // An index would cost more than the one or two scans of a single piece.
+    let mut heads = [0u16; 0];
+    let mut nexts = [0u16; 0];
+    book_sound(t, &mut heads, &mut nexts, piece)
 }
 
-// For a caller that holds the table sound by proof: the same promise, and no damage check is paid.
-pub fn book_sound(t: &mut [u8], piece: &[u8]) -> Booking
+// For a caller that holds the table sound by proof, and an index beside it or none: the same promise, and no damage check is paid.
+pub fn book_sound(t: &mut [u8], heads: &mut [u16], nexts: &mut [u16], piece: &[u8]) -> Booking
     requires { ⌜ sound (now t) ≡ true ⌝ }
+    requires { ⌜ Beside (now t) (now heads) (now nexts) ⌝ }
     ensures { λ x. ⌜ Books (now (t .entry)) (now (piece .entry)) x (now (t .exit)) ⌝ }
+    ensures { λ _. ⌜ Beside (now (t .exit)) (now (heads .exit)) (now (nexts .exit)) ⌝ }
 {
     let reading = line::read(piece);
     let outcome = reading.outcome;
     match outcome {
         Outcome::EndOfDay => book_end(t),
-        Outcome::Line => book_line(t, reading.line),
+        Outcome::Line => book_line(t, heads, nexts, reading.line),
         Outcome::Refused(x) => Booking::Refused(x),
     }
 }
@@ -54,14 +60,26 @@ fn book_end(t: &mut [u8]) -> Booking
     Booking::Booked
 }
 
-fn book_line(t: &mut [u8], r: Record) -> Booking
+fn book_line(t: &mut [u8], heads: &mut [u16], nexts: &mut [u16], r: Record) -> Booking
     requires { ⌜ sound (now t) ≡ true ⌝ }
+    requires { ⌜ Beside (now t) (now heads) (now nexts) ⌝ }
     ensures { λ x. ⌜ BooksSaid (now (t .entry)) (line r) x (now (t .exit)) ⌝ }
+    ensures { λ _. ⌜ Beside (now (t .exit)) (now (heads .exit)) (now (nexts .exit)) ⌝ }
 {
-    match planning::plan(t, r) {
+    let plan = planning::plan(t, heads, nexts, r);
+    carry_out(t, heads, nexts, plan, r)
+}
+
+fn carry_out(t: &mut [u8], heads: &mut [u16], nexts: &mut [u16], plan: Plan, r: Record) -> Booking
+    requires { ⌜ RoomFor plan (now t) ⌝ }
+    requires { ⌜ Beside (now t) (now heads) (now nexts) ⌝ }
+    ensures { λ x. ⌜ Carried (now (t .entry)) plan r x (now (t .exit)) ⌝ }
+    ensures { λ _. ⌜ Beside (now (t .exit)) (now (heads .exit)) (now (nexts .exit)) ⌝ }
+{
+    match plan {
         Plan::No(x) => Booking::Refused(x),
         Plan::New => {
-            table::append(t, new_order(r, r.contracts, 0));
+            lookup::append(t, heads, nexts, new_order(r, r.contracts, 0));
             Booking::Booked
         }
         Plan::Change(i, f) => {
@@ -74,7 +92,7 @@ fn book_line(t: &mut [u8], r: Record) -> Booking
         }
         Plan::Replace(i, f) => {
             refigure(t, i, f);
-            table::append(t, new_order(r, r.contracts, i as u64 + 1));
+            lookup::append(t, heads, nexts, new_order(r, r.contracts, i as u64 + 1));
             Booking::Booked
         }
     }

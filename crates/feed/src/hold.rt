@@ -6,6 +6,7 @@ ghost use mathlib.Core.List.{_++_};
 ghost use lib.ListN.{length};
 ghost use Rattle.book.specs.Bytes.{bookAnswer, bookBytes};
 ghost use Rattle.table.specs.Tables.{sound};
+ghost use Rattle.lookup.specs.Beside.{Beside};
 ghost use Rattle.row.specs.Writes.{Wrote};
 ghost use Rattle.feed.specs.Printed.{report as Printed·report};
 ghost use Rattle.feed.specs.Steps.{heldIn, holdLength, keptOf, longest};
@@ -26,31 +27,52 @@ pub fn keep(hold: &mut [u8], held: usize, part: &[u8]) -> usize
     held + n
 }
 
-fn book_piece(t: &mut [u8], piece: &[u8], line: u64, out: &mut [u8]) -> usize
+fn book_piece(
+    t: &mut [u8],
+    heads: &mut [u16],
+    nexts: &mut [u16],
+    piece: &[u8],
+    line: u64,
+    out: &mut [u8],
+) -> usize
     requires { ⌜ sound (now t) ≡ true ⌝ }
+    requires { ⌜ Beside (now t) (now heads) (now nexts) ⌝ }
     requires { ⌜ longest ≤ length (now out) ⌝ }
     ensures { λ r. ⌜ Wrote (Printed·report line (bookAnswer (now (t .entry)) (now (piece .entry)))) (now (out .entry)) (now (out .exit)) r ⌝ }
     ensures { λ _. ⌜ now (t .exit) ≡ bookBytes (now (t .entry)) (now (piece .entry)) ⌝ }
+    ensures { λ _. ⌜ Beside (now (t .exit)) (now (heads .exit)) (now (nexts .exit)) ⌝ }
 {
-    match book::book_sound(t, piece) {
+    match book::book_sound(t, heads, nexts, piece) {
         Booking::Booked => 0,
         Booking::Refused(x) => report::refused(line, x, out),
     }
 }
 
-pub fn book_held(t: &mut [u8], hold: &[u8], held: usize, line: u64, out: &mut [u8]) -> usize
+pub fn book_held(
+    t: &mut [u8],
+    heads: &mut [u16],
+    nexts: &mut [u16],
+    hold: &[u8],
+    held: usize,
+    line: u64,
+    out: &mut [u8],
+) -> usize
     requires { ⌜ sound (now t) ≡ true ⌝ }
+    requires { ⌜ Beside (now t) (now heads) (now nexts) ⌝ }
     requires { ⌜ held ≤ length (now hold) ⌝ }
     requires { ⌜ longest ≤ length (now out) ⌝ }
     ensures { λ r. ⌜ Wrote (Printed·report line (bookAnswer (now (t .entry)) (heldIn (now (hold .entry)) held))) (now (out .entry)) (now (out .exit)) r ⌝ }
     ensures { λ _. ⌜ now (t .exit) ≡ bookBytes (now (t .entry)) (heldIn (now (hold .entry)) held) ⌝ }
+    ensures { λ _. ⌜ Beside (now (t .exit)) (now (heads .exit)) (now (nexts .exit)) ⌝ }
 {
-    book_piece(t, &hold[0..held], line, out)
+    book_piece(t, heads, nexts, &hold[0..held], line, out)
 }
 
 // The part of a chunk that ends a piece. Where nothing is held it is the piece.
 pub fn book_part(
     t: &mut [u8],
+    heads: &mut [u16],
+    nexts: &mut [u16],
     hold: &mut [u8],
     held: usize,
     part: &[u8],
@@ -58,16 +80,18 @@ pub fn book_part(
     out: &mut [u8],
 ) -> usize
     requires { ⌜ sound (now t) ≡ true ⌝ }
+    requires { ⌜ Beside (now t) (now heads) (now nexts) ⌝ }
     requires { ⌜ length (now hold) ≡ holdLength ⌝ }
     requires { ⌜ held ≤ holdLength ⌝ }
     requires { ⌜ longest ≤ length (now out) ⌝ }
     ensures { λ r. ⌜ Wrote (Printed·report line (bookAnswer (now (t .entry)) (heldIn (now (hold .entry)) held ++ now (part .entry)))) (now (out .entry)) (now (out .exit)) r ⌝ }
     ensures { λ _. ⌜ now (t .exit) ≡ bookBytes (now (t .entry)) (heldIn (now (hold .entry)) held ++ now (part .entry)) ⌝ }
+    ensures { λ _. ⌜ Beside (now (t .exit)) (now (heads .exit)) (now (nexts .exit)) ⌝ }
     ensures { λ _. ⌜ length (now (hold .exit)) ≡ holdLength ⌝ }
 {
     if held == 0 {
-        return book_piece(t, part, line, out);
+        return book_piece(t, heads, nexts, part, line, out);
     }
     let n = keep(hold, held, part);
-    book_held(t, hold, n, line, out)
+    book_held(t, heads, nexts, hold, n, line, out)
 }

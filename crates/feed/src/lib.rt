@@ -4,6 +4,7 @@ ghost use mathlib.Core.Path.{_≡_};
 ghost use mathlib.Core.Bool.{true};
 ghost use lib.ListN.{length};
 ghost use Rattle.table.specs.Tables.{limitOf, sound};
+ghost use Rattle.lookup.specs.Beside.{Beside};
 ghost use Rattle.row.specs.Writes.{Wrote};
 ghost use Rattle.sheet.specs.Promises.{textOf};
 ghost use Rattle.sheet.specs.Texts.{longestSheet};
@@ -41,16 +42,20 @@ fn next_line(line: u64) -> u64
 pub fn step(
     chunk: &[u8],
     t: &mut [u8],
+    heads: &mut [u16],
+    nexts: &mut [u16],
     hold: &mut [u8],
     held: usize,
     line: u64,
     out: &mut [u8],
 ) -> Fed
     requires { ⌜ sound (now t) ≡ true ⌝ }
+    requires { ⌜ Beside (now t) (now heads) (now nexts) ⌝ }
     requires { ⌜ length (now hold) ≡ holdLength ⌝ }
     requires { ⌜ held ≤ holdLength ⌝ }
     ensures { λ r. ⌜ Fits (stepFrom (length (now (out .entry))) (between (heldIn (now (hold .entry)) held) line (now (t .entry))) (now (chunk .entry))) (now (out .entry)) r (now (t .exit)) (now (hold .exit)) (now (out .exit)) ⌝ }
     ensures { λ _. ⌜ sound (now (t .exit)) ≡ true ⌝ }
+    ensures { λ _. ⌜ Beside (now (t .exit)) (now (heads .exit)) (now (nexts .exit)) ⌝ }
 {
     let mut used = 0;
     let mut wrote = 0;
@@ -75,7 +80,16 @@ pub fn step(
                 line: number,
             };
         }
-        let said = hold::book_part(t, hold, kept, &chunk[used..end], number, &mut out[wrote..]);
+        let said = hold::book_part(
+            t,
+            heads,
+            nexts,
+            hold,
+            kept,
+            &chunk[used..end],
+            number,
+            &mut out[wrote..],
+        );
         wrote += said;
         kept = 0;
         number = next_line(number);
@@ -90,8 +104,17 @@ pub fn step(
 }
 
 // What is held when the text ends is the last piece.
-fn book_last(t: &mut [u8], hold: &[u8], held: usize, line: u64, out: &mut [u8]) -> usize
+fn book_last(
+    t: &mut [u8],
+    heads: &mut [u16],
+    nexts: &mut [u16],
+    hold: &[u8],
+    held: usize,
+    line: u64,
+    out: &mut [u8],
+) -> usize
     requires { ⌜ sound (now t) ≡ true ⌝ }
+    requires { ⌜ Beside (now t) (now heads) (now nexts) ⌝ }
     requires { ⌜ length (now hold) ≡ holdLength ⌝ }
     requires { ⌜ held ≤ holdLength ⌝ }
     requires { ⌜ longest ≤ length (now out) ⌝ }
@@ -101,7 +124,7 @@ fn book_last(t: &mut [u8], hold: &[u8], held: usize, line: u64, out: &mut [u8]) 
     if held == 0 {
         return 0;
     }
-    hold::book_held(t, hold, held, line, out)
+    hold::book_held(t, heads, nexts, hold, held, line, out)
 }
 
 // A buffer with room for the longest sheet is never refused.
@@ -117,14 +140,23 @@ fn sheet_of(t: &[u8], out: &mut [u8]) -> usize
 }
 
 // The end of the text: the last piece, and behind it the sheet.
-pub fn finish(t: &mut [u8], hold: &[u8], held: usize, line: u64, out: &mut [u8]) -> usize
+pub fn finish(
+    t: &mut [u8],
+    heads: &mut [u16],
+    nexts: &mut [u16],
+    hold: &[u8],
+    held: usize,
+    line: u64,
+    out: &mut [u8],
+) -> usize
     requires { ⌜ sound (now t) ≡ true ⌝ }
+    requires { ⌜ Beside (now t) (now heads) (now nexts) ⌝ }
     requires { ⌜ length (now hold) ≡ holdLength ⌝ }
     requires { ⌜ held ≤ holdLength ⌝ }
     requires { ⌜ roomAtEnd (limitOf (length (now t))) ≤ length (now out) ⌝ }
     ensures { λ r. ⌜ Wrote (finished (between (heldIn (now (hold .entry)) held) line (now (t .entry)))) (now (out .entry)) (now (out .exit)) r ⌝ }
     ensures { λ _. ⌜ now (t .exit) ≡ lastTable (between (heldIn (now (hold .entry)) held) line (now (t .entry))) ⌝ }
 {
-    let said = book_last(t, hold, held, line, out);
+    let said = book_last(t, heads, nexts, hold, held, line, out);
     said + sheet_of(t, &mut out[said..])
 }

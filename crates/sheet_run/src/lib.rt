@@ -5,6 +5,7 @@ ghost use mathlib.Core.Bool.{true};
 ghost use mathlib.Core.List.{[]};
 ghost use lib.ListN.{length};
 ghost use Rattle.table.specs.Tables.{leastLimit, limitOf, sound, tableLength};
+ghost use Rattle.lookup.specs.Beside.{Beside};
 ghost use Rattle.book.specs.Bytes.{bytesAfter};
 ghost use Rattle.feed.specs.Steps.{between, heldIn, holdLength, longest, roomAtEnd};
 ghost use Rattle.sheet_run.specs.Promises.{Ends, Takes};
@@ -23,34 +24,41 @@ pub fn table_buffer() -> [u8; table::TABLE]
     [0; table::TABLE]
 }
 
-// The table before the first chunk.
-pub fn begin(t: &mut [u8])
+// The table before the first chunk, and the index beside it.
+pub fn begin(t: &mut [u8], heads: &mut [u16], nexts: &mut [u16])
     requires { ⌜ 0 < limitOf (length (now t)) ⌝ }
+    requires { ⌜ (1 ≤ length (now heads)) × (limitOf (length (now t)) ≤ length (now nexts)) ⌝ }
     ensures { λ _. ⌜ now (t .exit) ≡ bytesAfter (now (t .entry)) [] ⌝ }
+    ensures { λ _. ⌜ Beside (now (t .exit)) (now (heads .exit)) (now (nexts .exit)) ⌝ }
 {
     table::make_empty(t);
+    lookup::build(t, heads, nexts);
 }
 
 // All of a chunk: one step after another, and what each says is written out before the next. A write that fails ends it.
 pub fn take(
     chunk: &[u8],
     t: &mut [u8],
+    heads: &mut [u16],
+    nexts: &mut [u16],
     hold: &mut [u8],
     held: usize,
     line: u64,
     out: &mut [u8],
 ) -> Kept
     requires { ⌜ sound (now t) ≡ true ⌝ }
+    requires { ⌜ Beside (now t) (now heads) (now nexts) ⌝ }
     requires { ⌜ length (now hold) ≡ holdLength ⌝ }
     requires { ⌜ held ≤ holdLength ⌝ }
     requires { ⌜ longest ≤ length (now out) ⌝ }
     ensures { λ r. ⌜ Takes (between (heldIn (now (hold .entry)) held) line (now (t .entry))) (now (chunk .entry)) r (now (t .exit)) (now (hold .exit)) ⌝ }
+    ensures { λ _. ⌜ Beside (now (t .exit)) (now (heads .exit)) (now (nexts .exit)) ⌝ }
 {
     let mut used = 0;
     let mut kept = held;
     let mut number = line;
     while used < chunk.len() {
-        let fed = feed::step(&chunk[used..], t, hold, kept, number, out);
+        let fed = feed::step(&chunk[used..], t, heads, nexts, hold, kept, number, out);
         if !say(out, fed.wrote) {
             return Kept {
                 held: fed.held,
@@ -70,14 +78,23 @@ pub fn take(
 }
 
 // The piece that is held, and the sheet. The answer says whether all of it is written out.
-pub fn end(t: &mut [u8], hold: &[u8], held: usize, line: u64, out: &mut [u8]) -> bool
+pub fn end(
+    t: &mut [u8],
+    heads: &mut [u16],
+    nexts: &mut [u16],
+    hold: &[u8],
+    held: usize,
+    line: u64,
+    out: &mut [u8],
+) -> bool
     requires { ⌜ sound (now t) ≡ true ⌝ }
+    requires { ⌜ Beside (now t) (now heads) (now nexts) ⌝ }
     requires { ⌜ length (now hold) ≡ holdLength ⌝ }
     requires { ⌜ held ≤ holdLength ⌝ }
     requires { ⌜ roomAtEnd (limitOf (length (now t))) ≤ length (now out) ⌝ }
     ensures { λ _. ⌜ Ends (between (heldIn (now (hold .entry)) held) line (now (t .entry))) (now (out .entry)) (now (t .exit)) (now (out .exit)) ⌝ }
 {
-    let n = feed::finish(t, hold, held, line, out);
+    let n = feed::finish(t, heads, nexts, hold, held, line, out);
     say(out, n)
 }
 

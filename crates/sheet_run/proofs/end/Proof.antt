@@ -4,7 +4,6 @@ use native.Mathlib.Omega.{arith}
 use mathlib.Core.Path.{_≡_, ap}
 use mathlib.Core.Bool.{true}
 use mathlib.Core.List.{List}
-use borrow.Author.Needs.{needs}
 use denote.Ref.{now}
 use lib.ListN.{length}
 use lib.Seq.{length-sets}
@@ -12,6 +11,7 @@ use Rattle.table.specs.Tables.{limitOf, sound}
 use Rattle.row.specs.Writes.{Wrote}
 use Rattle.feed.specs.Steps.{between, finished, heldIn, roomAtEnd}
 use Rattle.feed.proofs.Finishing.{finished-most}
+use borrow.Author.Needs.{needs}
 use Rattle.sheet_run.proofs.end.Statement.{statement}
 use Rattle.sheet_run.proofs.end.Tie as tie
 
@@ -25,8 +25,8 @@ finish-requires c κs = search needs
 
 say-requires : tie.Need-say-requires
 say-requires c κs =
-    let a = c .before .before .before .before .before .before .before .before .before .before .before .args in
-    written-inside (heldIn (now (a .hold)) (a .held)) (a .line) (now (a .t)) (now (a .out)) (search needs) (search needs) (c .before .before .before .before .before .finish .ensures .0)
+    let a = c .before .before .before .before .before .before .before .before .before .before .before .before .before .before .before .before .before .before .before .args in
+    written-inside (heldIn (now (a .hold)) (a .held)) (a .line) (now (a .t)) (now (a .out)) (search needs) (search needs) (c .before .before .before .before .before .before .before .before .before .finish .ensures .0)
 
 same-length : tie.Need-same-length
 same-length c = search needs
@@ -34,8 +34,23 @@ same-length c = search needs
 same-length-2 : tie.Need-same-length-2
 same-length-2 c = search needs
 
+same-length-3 : tie.Need-same-length-3
+same-length-3 c = search needs
+
+same-length-4 : tie.Need-same-length-4
+same-length-4 c = search needs
+
 returns : tie.Need-returns
 returns c = search needs
 
 pub end-spec : {M : Type 1} → statement M
-end-spec = tie.close (tie.spec finish-requires say-requires same-length same-length-2 returns)
+end-spec =
+    tie.close
+    (tie.spec
+    finish-requires
+    say-requires
+    same-length
+    same-length-2
+    same-length-3
+    same-length-4
+    returns)

@@ -1,26 +1,32 @@
 -- `sheet_run::take` meets its contract. Each step uses a byte or more of what is left of the chunk, so the turns end.
 use Prim.Native.Nat.{_-_}
 use native.Mathlib.Omega.{arith}
-use mathlib.Core.Path.{_∙_}
-use borrow.Author.Needs.{needs}
+use mathlib.Core.Path.{_≡_, refl, sym, _∙_}
 use denote.Ref.{now}
 use lib.ListN.{length}
+use Rattle.lookup.specs.Beside.{Beside}
 use Rattle.feed.specs.Steps.{between, heldIn}
 use Rattle.sheet_run.proofs.Turns.{Turn, first-turn, one-step, next-turn, stopped, all-taken}
+use borrow.Author.Needs.{needs}
 use Rattle.sheet_run.proofs.take.Statement.{statement}
 use Rattle.sheet_run.proofs.take.Tie as tie
 
+-- the turn, the index beside the table, and the index's buffers of the same length
 abbrev Inv-loop : tie.InvT-loop
-Inv-loop chunk t₀ hold₀ held line out₀ used₀ kept₀ number₀ t hold out used kept number =
+Inv-loop chunk t₀ heads₀ nexts₀ hold₀ held line out₀ used₀ kept₀ number₀ t heads nexts hold out used kept number =
     Turn (between (heldIn hold₀ held) line t₀) chunk t₀ out₀ t hold out used kept number
+    × Beside t heads nexts
+    × (length heads ≡ length heads₀)
+    × (length nexts ≡ length nexts₀)
 
 abbrev μ-loop : tie.MeasureT-loop
-μ-loop chunk t₀ hold₀ held line out₀ used₀ kept₀ number₀ t hold out used kept number = length chunk - used
+μ-loop chunk t₀ heads₀ nexts₀ hold₀ held line out₀ used₀ kept₀ number₀ t heads nexts hold out used kept number = length chunk - used
 
 loop-holds : tie.Need-loop-holds Inv-loop μ-loop
 loop-holds c =
-    let a = c .before .before .before .before .args in
-    first-turn (now (a .chunk)) (now (a .t)) (now (a .hold)) (now (a .out)) (a .held) (a .line) (c .before .before .before .before .pre .0) (search needs) (search needs)
+    let start = c .before .before .before .before .before .before in
+    let a = start .args in
+    (first-turn (now (a .chunk)) (now (a .t)) (now (a .hold)) (now (a .out)) (a .held) (a .line) (start .pre .0) (search needs) (search needs), start .pre .1 .0, refl, refl)
 
 sub-step : tie.Need-sub-step Inv-loop μ-loop
 sub-step c = search needs
@@ -32,50 +38,61 @@ part-step-end : tie.Need-part-step-end Inv-loop μ-loop
 part-step-end c = search needs
 
 step-requires : tie.Need-step-requires Inv-loop μ-loop
-step-requires c κs = search needs
+step-requires c κs = let inv = c .before .before .before .before .before .before .before .loop .inv in (inv .0 .good, (inv .1, (inv .0 .long, inv .0 .few)))
 
 say-requires : tie.Need-say-requires Inv-loop μ-loop
-say-requires c κs = one-step (c .before .before .before .before .before .before .before .before .before .before .before .before .before .loop .inv) (c .before .before .before .before .before .before .before .before .before .before .before .before .loop-test .taken) (search needs) (c .before .before .before .before .before .before .before .step .ensures .0) .wrote
+say-requires c κs = one-step (c .before .before .before .before .before .before .before .before .before .before .before .before .before .before .before .before .before .before .before .loop .inv .0) (c .before .before .before .before .before .before .before .before .before .before .before .before .before .before .before .before .before .before .loop-test .taken) (c .before .before .before .before .before .before .before .before .before .before .before .before .before .before .before .before .before .before .before .before .before .before .before .before .before .before .pre .1 .1 .1 .1) (c .before .before .before .before .before .before .before .before .before .before .before .step .ensures .0) .wrote
 
 same-length : tie.Need-same-length Inv-loop μ-loop
-same-length c = c .before .before .before .before .before .before .before .before .before .step .kept .1 .0 ∙ c .before .before .before .before .before .before .before .before .before .before .before .before .before .before .before .loop .inv .table
+same-length c = c .before .before .before .before .before .before .before .before .before .before .before .before .before .step .kept .1 .0 ∙ c .before .before .before .before .before .before .before .before .before .before .before .before .before .before .before .before .before .before .before .before .before .loop .inv .0 .table
 
 same-length-2 : tie.Need-same-length-2 Inv-loop μ-loop
-same-length-2 c = search needs
+same-length-2 c = c .before .before .before .before .before .before .before .before .before .before .before .before .before .step .kept .1 .1 .0 ∙ c .before .before .before .before .before .before .before .before .before .before .before .before .before .before .before .before .before .before .before .before .before .loop .inv .2
 
 same-length-3 : tie.Need-same-length-3 Inv-loop μ-loop
-same-length-3 c = search needs
-
-returns : tie.Need-returns Inv-loop μ-loop
-returns c =
-    let a = c .before .before .before .before .before .before .before .before .before .before .before .before .before .before .before .before .before .before .before .before .args in
-    let step = c .before .before .before .before .before .before .before .before .before .step .ensures in
-    stopped (between (heldIn (now (a .hold)) (a .held)) (a .line) (now (a .t))) (now (a .chunk)) (step .0 .few) (step .0 .long) (step .1)
-
-add-used : tie.Need-add-used Inv-loop μ-loop
-add-used c = search (needs, one-step (c .before .before .before .before .before .before .before .before .before .before .before .before .before .before .before .before .loop .inv) (c .before .before .before .before .before .before .before .before .before .before .before .before .before .before .before .loop-test .taken) (search needs) (c .before .before .before .before .before .before .before .before .before .before .step .ensures .0))
-
-loop-less : tie.Need-loop-less Inv-loop μ-loop
-loop-less c =
-    let k = one-step (c .before .before .before .before .before .before .before .before .before .before .before .before .before .before .before .before .loop .inv) (c .before .before .before .before .before .before .before .before .before .before .before .before .before .before .before .loop-test .taken) (search needs) (c .before .before .before .before .before .before .before .before .before .before .step .ensures .0) in
-    omega (arith, k .inside, k .some)
-
-loop-again : tie.Need-loop-again Inv-loop μ-loop
-loop-again c =
-    let step = c .before .before .before .before .before .before .before .before .before .before .step in
-    next-turn (c .before .before .before .before .before .before .before .before .before .before .before .before .before .before .before .before .loop .inv) (c .before .before .before .before .before .before .before .before .before .before .before .before .before .before .before .loop-test .taken) (c .before .before .before .before .before .before .before .before .before .before .before .before .before .before .before .before .before .before .before .before .before .pre .1 .1 .1) (step .ensures .0) (step .ensures .1) (step .kept .1 .0)
+same-length-3 c = c .before .before .before .before .before .before .before .before .before .before .before .before .before .step .kept .1 .1 .1 .0 ∙ c .before .before .before .before .before .before .before .before .before .before .before .before .before .before .before .before .before .before .before .before .before .loop .inv .3
 
 same-length-4 : tie.Need-same-length-4 Inv-loop μ-loop
-same-length-4 c = c .before .loop .inv .table
+same-length-4 c = c .before .before .before .before .before .before .before .before .before .before .before .before .before .step .ensures .0 .long ∙ sym (c .before .before .before .before .before .before .before .before .before .before .before .before .before .before .before .before .before .before .before .before .before .before .before .before .before .before .before .before .pre .1 .1 .0)
 
 same-length-5 : tie.Need-same-length-5 Inv-loop μ-loop
 same-length-5 c = search needs
 
+returns : tie.Need-returns Inv-loop μ-loop
+returns c =
+    let a = c .before .before .before .before .before .before .before .before .before .before .before .before .before .before .before .before .before .before .before .before .before .before .before .before .before .before .before .before .args in
+    let step = c .before .before .before .before .before .before .before .before .before .before .before .before .before .step .ensures in
+    (stopped (between (heldIn (now (a .hold)) (a .held)) (a .line) (now (a .t))) (now (a .chunk)) (step .0 .few) (step .0 .long) (step .1 .0), step .1 .1)
+
+add-used : tie.Need-add-used Inv-loop μ-loop
+add-used c = search (needs, c .before .before .before .before .before .before .before .before .before .before .before .before .before .before .before .before .before .before .before .before .before .before .before .before .before .before .before .before .before .good, one-step (c .before .before .before .before .before .before .before .before .before .before .before .before .before .before .before .before .before .before .before .before .before .before .loop .inv .0) (c .before .before .before .before .before .before .before .before .before .before .before .before .before .before .before .before .before .before .before .before .before .loop-test .taken) (c .before .before .before .before .before .before .before .before .before .before .before .before .before .before .before .before .before .before .before .before .before .before .before .before .before .before .before .before .before .pre .1 .1 .1 .1) (c .before .before .before .before .before .before .before .before .before .before .before .before .before .before .step .ensures .0))
+
+loop-less : tie.Need-loop-less Inv-loop μ-loop
+loop-less c = let k = one-step (c .before .before .before .before .before .before .before .before .before .before .before .before .before .before .before .before .before .before .before .before .before .before .loop .inv .0) (c .before .before .before .before .before .before .before .before .before .before .before .before .before .before .before .before .before .before .before .before .before .loop-test .taken) (c .before .before .before .before .before .before .before .before .before .before .before .before .before .before .before .before .before .before .before .before .before .before .before .before .before .before .before .before .before .pre .1 .1 .1 .1) (c .before .before .before .before .before .before .before .before .before .before .before .before .before .before .step .ensures .0) in omega (arith, k .inside, k .some)
+
+loop-again : tie.Need-loop-again Inv-loop μ-loop
+loop-again c =
+    let step = c .before .before .before .before .before .before .before .before .before .before .before .before .before .before .step in
+    let inv = c .before .before .before .before .before .before .before .before .before .before .before .before .before .before .before .before .before .before .before .before .before .before .loop .inv in
+    (next-turn (inv .0) (c .before .before .before .before .before .before .before .before .before .before .before .before .before .before .before .before .before .before .before .before .before .loop-test .taken) (c .before .before .before .before .before .before .before .before .before .before .before .before .before .before .before .before .before .before .before .before .before .before .before .before .before .before .before .before .before .pre .1 .1 .1 .1) (step .ensures .0) (step .ensures .1 .0) (step .kept .1 .0), step .ensures .1 .1, step .kept .1 .1 .0 ∙ inv .2, step .kept .1 .1 .1 .0 ∙ inv .3)
+
 same-length-6 : tie.Need-same-length-6 Inv-loop μ-loop
-same-length-6 c = search needs
+same-length-6 c = c .before .loop .inv .0 .table
+
+same-length-7 : tie.Need-same-length-7 Inv-loop μ-loop
+same-length-7 c = c .before .loop .inv .2
+
+same-length-8 : tie.Need-same-length-8 Inv-loop μ-loop
+same-length-8 c = c .before .loop .inv .3
+
+same-length-9 : tie.Need-same-length-9 Inv-loop μ-loop
+same-length-9 c = search needs
+
+same-length-10 : tie.Need-same-length-10 Inv-loop μ-loop
+same-length-10 c = search needs
 
 returns-2 : tie.Need-returns-2 Inv-loop μ-loop
-returns-2 c = all-taken (c .before .loop .inv) (c .loop-test .left)
+returns-2 c = let inv = c .before .loop .inv in (all-taken (inv .0) (c .loop-test .left), inv .1)
 
 pub take-spec : {M : Type 1} → statement M
 take-spec =
@@ -92,11 +109,15 @@ take-spec =
     same-length
     same-length-2
     same-length-3
+    same-length-4
+    same-length-5
     returns
     add-used
     loop-less
     loop-again
-    same-length-4
-    same-length-5
     same-length-6
+    same-length-7
+    same-length-8
+    same-length-9
+    same-length-10
     returns-2)

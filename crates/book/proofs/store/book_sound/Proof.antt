@@ -1,8 +1,8 @@
 -- `book::store::book_sound` meets its contract.
-use borrow.Author.Needs.{needs}
 use denote.Ref.{now}
-use Rattle.layout.specs.Line.{line, endOfDay}
-use Rattle.book.proofs.Booked.{outcome-is, unread, read-as}
+use Rattle.layout.specs.Line.{endOfDay, line}
+use Rattle.book.proofs.Booked.{outcome-is, read-as, unread, end-beside}
+use borrow.Author.Needs.{needs}
 use Rattle.book.proofs.store.book_sound.Statement.{statement}
 use Rattle.book.proofs.store.book_sound.Tie as tie
 
@@ -28,16 +28,35 @@ same-length : tie.Need-same-length
 same-length c = search needs
 
 returns : tie.Need-returns
-returns c = read-as (now (c .before .before .before .before .before .before .before .before .before .args .t)) (now (c .before .before .before .before .before .before .before .before .before .args .piece)) (search needs) endOfDay _ _ (outcome-is (now (c .before .before .before .before .before .before .before .before .before .args .piece)) _ _ _ (c .before .before .before .before .enum-told .given .1) (c .before .before .before .before .before .before .read .ensures .said)) (c .before .before .book-end .ensures)
+returns c =
+    let start = c .before .before .before .before .before .before .before .before .before .before .before in
+    let piece = now (start .args .piece) in
+    let said = outcome-is piece _ _ _ (c .before .before .before .before .enum-told .given .1) (c .before .before .before .before .before .before .read .ensures .said) in
+    let done = c .before .before .book-end .ensures in
+    (read-as (now (start .args .t)) piece (search needs) endOfDay _ _ said done, end-beside done (start .pre .1))
 
 same-length-2 : tie.Need-same-length-2
 same-length-2 c = search needs
 
+same-length-3 : tie.Need-same-length-3
+same-length-3 c = search needs
+
+same-length-4 : tie.Need-same-length-4
+same-length-4 c = search needs
+
 returns-2 : tie.Need-returns-2
-returns-2 c = read-as (now (c .before .before .before .before .before .before .before .before .before .args .t)) (now (c .before .before .before .before .before .before .before .before .before .args .piece)) (search needs) (line (c .before .before .before .before .before .before .read .result .line)) _ _ (outcome-is (now (c .before .before .before .before .before .before .before .before .before .args .piece)) _ _ _ (c .before .before .before .before .enum-told2 .given .1) (c .before .before .before .before .before .before .read .ensures .said)) (c .before .before .book-line .ensures)
+returns-2 c =
+    let start = c .before .before .before .before .before .before .before .before .before .before .before .before .before .before .before .before .before in
+    let piece = now (start .args .piece) in
+    let said = outcome-is piece _ _ _ (c .before .before .before .before .before .before .before .before .before .before .enum-told2 .given .1) (c .before .before .before .before .before .before .before .before .before .before .before .before .read .ensures .said) in
+    let done = c .before .before .before .before .before .before .book-line .ensures in
+    (read-as (now (start .args .t)) piece (search needs) (line (c .before .before .before .before .before .before .before .before .before .before .before .before .read .result .line)) _ _ said (done .0), done .1)
 
 returns-3 : tie.Need-returns-3
-returns-3 c = unread (now (c .before .before .before .before .before .before .args .t)) (now (c .before .before .before .before .before .before .args .piece)) (search needs) _ (outcome-is (now (c .before .before .before .before .before .before .args .piece)) _ _ _ (c .before .outcome .given .1) (c .before .before .before .read .ensures .said))
+returns-3 c =
+    let start = c .before .before .before .before .before .before .before .before in
+    let piece = now (start .args .piece) in
+    (unread (now (start .args .t)) piece (search needs) _ (outcome-is piece _ _ _ (c .before .outcome .given .1) (c .before .before .before .read .ensures .said)), search needs)
 
 pub book-sound-spec : {M : Type 1} → statement M
 book-sound-spec =
@@ -52,5 +71,7 @@ book-sound-spec =
     same-length
     returns
     same-length-2
+    same-length-3
+    same-length-4
     returns-2
     returns-3)

@@ -1,7 +1,7 @@
 -- `feed::hold::book_held` meets its contract: the part that is lent is what is held.
-use borrow.Author.Needs.{needs}
 use denote.Ref.{now}
 use Rattle.feed.proofs.Saying.{held-says}
+use borrow.Author.Needs.{needs}
 use Rattle.feed.proofs.hold.book_held.Statement.{statement}
 use Rattle.feed.proofs.hold.book_held.Tie as tie
 
@@ -23,10 +23,18 @@ same-length c = search needs
 same-length-2 : tie.Need-same-length-2
 same-length-2 c = search needs
 
+same-length-3 : tie.Need-same-length-3
+same-length-3 c = search needs
+
+same-length-4 : tie.Need-same-length-4
+same-length-4 c = search needs
+
 returns : tie.Need-returns
 returns c =
-    let a = c .before .before .before .before .before .before .before .before .before .before .before .args in
-    held-says (a .line) (now (a .t)) (now (a .hold)) (a .held) (c .before .before .before .before .book-piece .ensures)
+    let a = c .before .before .before .before .before .before .before .before .before .before .before .before .before .before .before .before .before .before .before .args in
+    let booked = c .before .before .before .before .before .before .before .before .book-piece .ensures in
+    let s = held-says (a .line) (now (a .t)) (now (a .hold)) (a .held) (booked .0, booked .1 .0) in
+    (s .0, (s .1, booked .1 .1))
 
 pub book-held-spec : {M : Type 1} → statement M
 book-held-spec =
@@ -38,4 +46,6 @@ book-held-spec =
     book-piece-requires
     same-length
     same-length-2
+    same-length-3
+    same-length-4
     returns)

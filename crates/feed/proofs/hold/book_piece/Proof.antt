@@ -1,7 +1,7 @@
 -- `feed::hold::book_piece` meets its contract: a line is written for a refusal, and nothing for a piece that is booked.
-use borrow.Author.Needs.{needs}
 use denote.Ref.{now}
 use Rattle.feed.proofs.Saying.{booked-says, refused-says}
+use borrow.Author.Needs.{needs}
 use Rattle.feed.proofs.hold.book_piece.Statement.{statement}
 use Rattle.feed.proofs.hold.book_piece.Tie as tie
 
@@ -20,21 +20,38 @@ refused-requires c κs = search needs
 same-length : tie.Need-same-length
 same-length c = search needs
 
-returns : tie.Need-returns
-returns c =
-    let a = c .before .before .before .before .before .before .before .before .before .args in
-    booked-says (a .line) (now (a .t)) (now (a .piece)) (c .before .before .before .before .book-sound .result) (c .enum-told .given .1) (c .before .before .before .before .book-sound .ensures)
-
 same-length-2 : tie.Need-same-length-2
 same-length-2 c = search needs
 
 same-length-3 : tie.Need-same-length-3
 same-length-3 c = search needs
 
+returns : tie.Need-returns
+returns c =
+    let a = c .before .before .before .before .before .before .before .before .before .before .before .before .before .before .before .before .before .args in
+    let booked = c .before .before .before .before .before .before .before .before .book-sound in
+    let s = booked-says (a .line) (now (a .t)) (now (a .piece)) (booked .result) (c .enum-told .given .1) (booked .ensures .0) in
+    (s .0, (s .1, booked .ensures .1))
+
+same-length-4 : tie.Need-same-length-4
+same-length-4 c = search needs
+
+same-length-5 : tie.Need-same-length-5
+same-length-5 c = search needs
+
+same-length-6 : tie.Need-same-length-6
+same-length-6 c = search needs
+
+same-length-7 : tie.Need-same-length-7
+same-length-7 c = search needs
+
 returns-2 : tie.Need-returns-2
 returns-2 c =
-    let a = c .before .before .before .before .before .before .before .before .before .before .before .before .before .before .args in
-    refused-says (a .line) (now (a .t)) (now (a .piece)) (c .before .before .before .before .before .before .before .before .before .book-sound .result) (c .before .before .before .before .before .x .given .0 .0) (c .before .before .before .before .before .x .given .1) (c .before .before .before .before .before .before .before .before .before .book-sound .ensures) (c .before .before .refused .ensures)
+    let a = c .before .before .before .before .before .before .before .before .before .before .before .before .before .before .before .before .before .before .before .before .before .before .args in
+    let booked = c .before .before .before .before .before .before .before .before .before .before .before .before .before .book-sound in
+    let x = c .before .before .before .before .before .x .given in
+    let s = refused-says (a .line) (now (a .t)) (now (a .piece)) (booked .result) (x .0 .0) (x .1) (booked .ensures .0) (c .before .before .refused .ensures) in
+    (s .0, (s .1, booked .ensures .1))
 
 pub book-piece-spec : {M : Type 1} → statement M
 book-piece-spec =
@@ -45,7 +62,11 @@ book-piece-spec =
     enum-known-x
     refused-requires
     same-length
-    returns
     same-length-2
     same-length-3
+    returns
+    same-length-4
+    same-length-5
+    same-length-6
+    same-length-7
     returns-2)
