@@ -12,13 +12,14 @@ use crate::cases::long_day;
 use crate::cases::set;
 use crate::cases::stream;
 use crate::cases::vectors;
+use crate::rules::day::MOST;
 use crate::rules::sheet;
 use crate::rules::trial;
 use crate::tests::check;
 
 const USAGE: &str = "\
-usage: second sheet < CAPTURE | second stream SEED COUNT | second day SEED COUNT | second trial < CASES |
-       second cases SEED COUNT | second random SEED COUNT | second vectors | second check";
+usage: second sheet < CAPTURE | second stream SEED COUNT | second day SEED COUNT | second alone SEED COUNT ORDERS |
+       second trial < CASES | second cases SEED COUNT | second random SEED COUNT | second vectors | second check";
 const BUFFER: usize = 1 << 16;
 
 fn main() -> ExitCode {
@@ -47,6 +48,15 @@ fn command(words: &[&str], output: &mut impl Write) -> io::Result<ExitCode> {
         ["day", seed, count] => {
             let (Ok(seed), Ok(count)) = (seed.parse(), count.parse()) else { return Ok(usage()) };
             long_day::write(seed, count, output)?;
+        }
+        ["alone", seed, count, orders] => {
+            let (Ok(seed), Ok(count), Ok(orders)) = (seed.parse(), count.parse(), orders.parse()) else {
+                return Ok(usage());
+            };
+            if !(1..=MOST).contains(&orders) {
+                return Ok(usage());
+            }
+            long_day::write_alone(seed, count, orders, output)?;
         }
         ["trial"] => {
             let mut input = BufReader::with_capacity(BUFFER, io::stdin().lock());

@@ -15,15 +15,19 @@ use crate::rules::line;
 use crate::rules::record::Record;
 use crate::rules::strike;
 
-/// How many orders there are, fewer on a day of less than twice as many lines.
-const ORDERS: usize = 500;
-/// They come in the first of so many parts of the day, unless that is too short for them.
-const EARLY: u64 = 10;
-/// One new order in so many begins a family.
-const FOUNDING: usize = 4;
-/// The least size of an order, and the most that one line takes of it.
-const LEAST_SIZE: u32 = 100_000;
-const MOST_TAKEN: u32 = 40;
+/// What orders a day has, and how much its lines take of them.
+struct Shape {
+    /// How many orders there are, fewer on a day that is too short for them.
+    orders: usize,
+    /// There is a new order once in so many lines, until all are there.
+    pace: u64,
+    /// One new order in so many begins a family.
+    founding: usize,
+    /// The least size of an order, and the most that one line takes of it.
+    least_size: u32,
+    most_taken: u32,
+}
+
 /// The types of the other lines, as often as they come.
 const TYPES: &[u8] = b"EEEEEEEEXXXXRRRRRRRC";
 /// From 9:30 to 16:00, in milliseconds.
@@ -53,7 +57,21 @@ const CLIENTS: [Client; 5] = [
 /// Writes a day of so many lines. A few clients enter some 500 orders early; most lines execute, cancel or reprice a
 /// little of them until the close.
 pub fn write(seed: u64, count: u32, out: &mut impl Write) -> io::Result<()> {
-    let mut day = LongDay::new(seed, count);
+    // All orders are there after a tenth of the day, unless that is too short for them.
+    let pace = u64::from(count / 10 / 500).max(2);
+    let shape = Shape { orders: 500, pace, founding: 4, least_size: 100_000, most_taken: 40 };
+    write_shape(shape, seed, count, out)
+}
+
+/// Writes a day of so many lines about so many orders, at least 1 and at most 512. They come first, each alone in its
+/// family; the other lines take so little that even one order lasts for a million of them.
+pub fn write_alone(seed: u64, count: u32, orders: usize, out: &mut impl Write) -> io::Result<()> {
+    let shape = Shape { orders, pace: 1, founding: 1, least_size: MOST_CONTRACTS, most_taken: 1 };
+    write_shape(shape, seed, count, out)
+}
+
+fn write_shape(shape: Shape, seed: u64, count: u32, out: &mut impl Write) -> io::Result<()> {
+    let mut day = LongDay::new(shape, seed, count);
     for _ in 0..count {
         out.write_all(&day.line())?;
     }
@@ -61,6 +79,7 @@ pub fn write(seed: u64, count: u32, out: &mut impl Write) -> io::Result<()> {
 }
 
 struct LongDay {
+    shape: Shape,
     random: Random,
     /// How many lines were made, and how many there are to be.
     lines: u64,
@@ -76,8 +95,9 @@ struct LongDay {
 }
 
 impl LongDay {
-    fn new(seed: u64, count: u32) -> LongDay {
+    fn new(shape: Shape, seed: u64, count: u32) -> LongDay {
         LongDay {
+            shape,
             random: Random::new(seed),
             lines: 0,
             count: count.into(),
@@ -90,8 +110,7 @@ impl LongDay {
 
     /// The next line, of as many as there are to be.
     fn line(&mut self) -> [u8; LINE] {
-        let pace = (self.count / EARLY / ORDERS as u64).max(2);
-        let grows = self.records.len() < ORDERS && self.lines % pace == 0;
+        let grows = self.records.len() < self.shape.orders && self.lines % self.shape.pace == 0;
         let place = if grows { self.new_order() } else { self.event() };
         let record = &mut self.records[place];
         record.set_number(TIMESTAMP, OPENING + TRADING * self.lines / self.count);
@@ -107,7 +126,7 @@ impl LongDay {
     /// Makes the line of a new order, and gives its place.
     fn new_order(&mut self) -> usize {
         let place = self.records.len();
-        let record = if place == 0 || self.random.once_in(FOUNDING) {
+        let record = if place == 0 || self.random.once_in(self.shape.founding) {
             self.youngest.push(place);
             self.founder()
         } else {
@@ -118,7 +137,8 @@ impl LongDay {
             self.replacement(elder)
         };
         self.records.push(record);
-        let size = LEAST_SIZE + self.random.below((MOST_CONTRACTS - LEAST_SIZE) as usize + 1) as u32;
+        let least = self.shape.least_size;
+        let size = least + self.random.below((MOST_CONTRACTS - least) as usize + 1) as u32;
         self.complete(place, size);
         self.records[place].set(REFERENCE, format!("{place:09X}").as_bytes());
         self.reprice(place);
@@ -185,7 +205,7 @@ impl LongDay {
     }
 
     fn part(&mut self, most: u32) -> u32 {
-        1 + self.random.below(most.min(MOST_TAKEN) as usize) as u32
+        1 + self.random.below(most.min(self.shape.most_taken) as usize) as u32
     }
 
     /// Gives the record at a place its contracts, and what its type alone carries.

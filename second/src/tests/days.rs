@@ -152,7 +152,7 @@ pub fn captures() -> Vec<Capture> {
     ]
 }
 
-pub fn laws() -> [Law; 14] {
+pub fn laws() -> [Law; 15] {
     [
         ("Another side or series is 9 on E, C, X, R and U, whichever field differs", others_are_refused),
         ("Order 512 is taken, order 513 is 12, and 12 comes after all others", a_table_fills),
@@ -168,6 +168,7 @@ pub fn laws() -> [Law; 14] {
         ("Families come by the acceptance of their first order, each from eldest to youngest", families_come_in_order),
         ("The accepted lines alone give the same sheet and no refusal", accepted_lines_suffice),
         ("A long day is accepted to its last line", long_days_are_accepted),
+        ("A day of orders alone in their families is accepted to its last line", days_alone_are_accepted),
     ]
 }
 
@@ -422,5 +423,19 @@ fn long_days_are_accepted() -> bool {
         let whole = accepted.len() == count as usize && text.len() == LINE * accepted.len();
         let full = day.orders().len() == 500 && types.into_iter().eq(*b"ACERUX");
         whole && !day.is_over() && (full || count < 2_000)
+    })
+}
+
+/// Whether all lines of days about orders without a younger are accepted, and whether these orders come first.
+fn days_alone_are_accepted() -> bool {
+    let days = [(0, 1), (1, 1), (2_000, 1), (2_000, 16), (300, 512), (2_000, 512)];
+    days.into_iter().zip(1..).all(|((count, orders), seed)| {
+        let mut text = Vec::new();
+        long_day::write_alone(seed, count, orders, &mut text).expect("memory takes every byte");
+        let (day, accepted) = booked(&text);
+        let whole = accepted.len() == count as usize && text.len() == LINE * accepted.len();
+        let founding = accepted.iter().take(orders).all(|piece| piece[8] == b'A');
+        let alone = day.orders().iter().all(|order| order.elder.is_none());
+        whole && founding && alone && day.orders().len() == orders.min(accepted.len()) && !day.is_over()
     })
 }
