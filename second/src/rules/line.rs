@@ -1,6 +1,6 @@
 //! A line: its fields held against their rules, reading a piece and writing a record (01, The line).
 
-use crate::rules::bytes::{blank, decimal, digits, justify, number, printable};
+use crate::rules::bytes::{blank, decimal, digits, hex, justify, number, printable};
 use crate::rules::fields::{places, Field, Rule, BODY, CR_LF, DENOMINATOR_AT, FIELDS, LINE, TYPE_AT};
 use crate::rules::record::{Record, STORED};
 use crate::rules::refusal::Refusal;
@@ -32,7 +32,7 @@ impl Field {
             Rule::Number(least, most) => number(bytes).is_some_and(|n| (least..=most).contains(&n)),
             Rule::Digits(least, most) => digits(bytes) && (least..=most).contains(&decimal(bytes)),
             Rule::DigitsOrBlank => digits(bytes) || blank(bytes),
-            Rule::Hex => bytes.iter().all(|byte| matches!(byte, b'0'..=b'9' | b'A'..=b'F')),
+            Rule::Hex => hex(bytes),
             Rule::Code(list) => list.contains(&bytes[0]),
             Rule::Text => bytes[0] != b' ',
             Rule::TextOrBlank => bytes[0] != b' ' || blank(bytes),
