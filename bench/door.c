@@ -124,7 +124,7 @@ static void write_sheet(uint64_t before)
     uint64_t written = 0;
     (void)before;
     must(skurzelt_sheet(table, sizeof table, sheet, sizeof sheet, &written) == 0, "sheet refused");
-    must(written > MOST, "a sheet is too short");
+    must(written > MOST && memcmp(sheet, "orders 512 ", 11) == 0, "a sheet is not of 512 orders");
 }
 
 #ifdef SKURZELT_BOOK_ALL
