@@ -3,8 +3,7 @@ use Prim.Native.Nat.{ℕ, _+_, _*_}
 use mathlib.Core.Path.{_≡_, refl, sym, ap, _∙_}
 use mathlib.Core.Bool.{Bool, true, false}
 use mathlib.Core.List.{List}
-use Rattle.refusal.specs.Answer.{Answer, value, refused, refusedBy}
-use Rattle.refusal.specs.Numbers.{numberOf, fieldOf}
+use Rattle.refusal.specs.Answer.{Answer, value, refused, refusedBy, codeOf, codeFor}
 use Rattle.refusal.specs.declared.Refusal.{Refusal}
 use Rattle.layout.specs.Clocks.{clock}
 use Rattle.layout.specs.Strikes.{strikeValue, strikeForm}
@@ -32,11 +31,7 @@ use Rattle.sheet.specs.declared.SheetWritten.{SheetWritten}
 use Rattle.sheet.specs.declared.SheetWritten.the-variants.{Done as SheetWritten·Done, Refused as SheetWritten·Refused}
 use Rattle.piece.specs.Pieces.{nextPiece}
 use Rattle.piece.specs.declared.Ahead.{Ahead}
-use Rattle.door.specs.Promises.{codeOf, numberAfter, endOf, StrikeValues, StrikeForms, Clocks, Empties, Checks, Finds, OrdersAt, BooksIn, SheetsIn, NextPieces}
-
--- the one number that says a refusal
-abbrev pub codeFor : Refusal → ℕ
-codeFor x = numberOf x + 256 * fieldOf x
+use Rattle.door.specs.Promises.{numberAfter, endOf, StrikeValues, StrikeForms, Clocks, Empties, Checks, Finds, OrdersAt, BooksIn, SheetsIn, NextPieces}
 
 -- ---- an answer as one number, and in a lent number
 

@@ -11,7 +11,7 @@ use lib.ListN.{length, replicate}
 use Rattle.run.specs.Runs.{member}
 use Rattle.run.proofs.Tests.{both as holds, either}
 use Rattle.field.proofs.Fill.{between, is-between}
-use Rattle.refusal.specs.Answer.{Answer, value, refused, refusedBy}
+use Rattle.refusal.specs.Answer.{Answer, value, refused, refusedBy, codeOf}
 use Rattle.refusal.specs.Numbers.{numberOf, fieldOf}
 use Rattle.refusal.proofs.OneNumber.{byNumber}
 use Rattle.refusal.specs.declared.Refusal.{Refusal}
@@ -38,7 +38,7 @@ use Rattle.book.proofs.Refuted.{refusal-stays}
 use Rattle.sheet.specs.Promises.{textOf, sheetAnswer, sheetFrom}
 use Rattle.door.specs.Demand1.{Answers, Refuses, Demand1}
 use Rattle.image.specs.Images.{odd, unmeant, recordIn, sooner, unwritable}
-use Rattle.door.specs.Promises.{codeOf, numberAfter, readAnswer, kindOf, recordAfter, writeAnswer}
+use Rattle.door.specs.Promises.{numberAfter, readAnswer, kindOf, recordAfter, writeAnswer}
 
 -- ---- a value, or a numbered refusal
 

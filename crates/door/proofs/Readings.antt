@@ -5,7 +5,7 @@ use mathlib.Core.List.{List}
 use borrow.Author.Tests.{lt-ltb, le-ltb}
 use lib.ListN.{length}
 use lib.Seq.{sets}
-use Rattle.refusal.specs.Answer.{Answer, value, refusedBy}
+use Rattle.refusal.specs.Answer.{Answer, value, refusedBy, codeFor}
 use Rattle.refusal.specs.declared.Refusal.{Refusal}
 use Rattle.layout.specs.Line.{Said, line, endOfDay, read}
 use Rattle.line.specs.Promises.{saidOf, Read}
@@ -13,7 +13,7 @@ use Rattle.line.specs.declared.Outcome.the-variants.{EndOfDay, Line, Refused}
 use Rattle.line.specs.declared.Reading.{Reading}
 use Rattle.image.specs.Images.{imageOf}
 use Rattle.door.specs.Promises.{kindOf, numberAfter, readAnswer, recordAfter, Reads}
-use Rattle.door.proofs.Answered.{codeFor, says-value, says-refusal}
+use Rattle.door.proofs.Answered.{says-value, says-refusal}
 
 -- a piece whose reading is a line says the record beside it
 pub line-said : (piece : List ℕ) (x : Reading) → Read piece x → x .outcome ≡ Line → read piece ≡ value (line (x .line))

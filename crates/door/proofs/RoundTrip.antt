@@ -9,7 +9,7 @@ use borrow.Author.Tests.{eqb-true, le-ltb, ltb-false}
 use lib.Dec.{ltb, eqb}
 use lib.ListN.{length, take, drop, drop-of-length-le}
 use lib.Seq.{sets, take-at}
-use Rattle.refusal.specs.Answer.{Answer, value, refused}
+use Rattle.refusal.specs.Answer.{Answer, value, refused, codeOf}
 use Rattle.layout.specs.Line.{Said, endOfDay, line, read, lineOf}
 use Rattle.layout.specs.declared.Record.{Record}
 use Rattle.layout.proofs.Answers.{read-back, written-reads, length-line}
@@ -18,7 +18,7 @@ use Rattle.image.specs.Images.{imageOf, recordIn, unwritable}
 use Rattle.image.proofs.Back.{back, image-length}
 use Rattle.run.proofs.Stores.{sets-start}
 use Rattle.image.proofs.Forth.{whole, lawful, image-said}
-use Rattle.door.specs.Promises.{codeOf, readAnswer, writeAnswer, Reads, Writes}
+use Rattle.door.specs.Promises.{readAnswer, writeAnswer, Reads, Writes}
 use Rattle.door.specs.RoundTrip.{RoundTrip}
 
 -- the bytes of the record of a piece are written as that piece, whatever stood in the lent line

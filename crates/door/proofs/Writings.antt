@@ -7,6 +7,7 @@ use mathlib.Core.List.{List}
 use borrow.Author.Tests.{lt-ltb, le-ltb, ne-eqb}
 use lib.Dec.{ltb}
 use lib.ListN.{length}
+use Rattle.refusal.specs.Answer.{codeFor}
 use Rattle.refusal.specs.declared.Refusal.{Refusal}
 use Rattle.layout.specs.Line.{outAfter, unlawful, write}
 use Rattle.layout.specs.declared.Record.{Record}
@@ -15,7 +16,7 @@ use Rattle.writing.specs.declared.Written.{Written}
 use Rattle.writing.specs.declared.Written.the-variants.{Done, Refused}
 use Rattle.image.specs.Images.{recordIn, sooner, unmeant, unwritable}
 use Rattle.door.specs.Promises.{writeAnswer, Writes}
-use Rattle.door.proofs.Answered.{codeFor, says-value, says-refusal}
+use Rattle.door.proofs.Answered.{says-value, says-refusal}
 use Rattle.image.proofs.Sooner.{other-length, in-the-way, odd-in-the-way, rule-in-the-way}
 
 module _ (b before : List ℕ) where

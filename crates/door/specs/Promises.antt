@@ -1,12 +1,12 @@
 -- What each entry of the door promises: the one number that it answers, and each lent number and byte.
-use Prim.Native.Nat.{ℕ, _+_, _*_}
+use Prim.Native.Nat.{ℕ}
 use mathlib.Core.Path.{_≡_}
 use mathlib.Core.Bool.{cond}
 use mathlib.Core.List.{List}
 use lib.Dec.{ltb, eqb}
 use lib.ListN.{length}
 use lib.Seq.{sets}
-use Rattle.refusal.specs.Answer.{Answer, value, refused}
+use Rattle.refusal.specs.Answer.{Answer, value, refused, codeOf}
 use Rattle.layout.specs.Clocks.{clock}
 use Rattle.layout.specs.Line.{Said, line, endOfDay, outAfter}
 use Rattle.layout.specs.Line.{read as readLine}
@@ -21,11 +21,6 @@ use Rattle.piece.specs.Pieces.{nextPiece}
 use Rattle.piece.specs.declared.Ahead.{Ahead}
 use Rattle.piece.specs.declared.Ahead.the-variants.{Piece, Nothing}
 use Rattle.image.specs.Images.{imageOf, recordIn, unwritable}
-
--- 0, or the refusal's number plus 256 times its field
-abbrev pub codeOf : {A : Type 0} → Answer A → ℕ
-codeOf (value x) = 0
-codeOf (refused n f) = n + 256 * f
 
 -- a lent number afterwards: a refusal leaves it alone
 abbrev pub numberAfter : {A : Type 0} → (A → ℕ) → Answer A → ℕ → ℕ

@@ -1,9 +1,8 @@
 // The door for hosts: every public operation as a C function over numbers, byte slices and lent numbers. Each answers 0, or the refusal's number
 // plus 256 times its field; a refusal changes no lent number and no lent byte. include/skurzelt.h says it for people.
 ghost use mathlib.Core.Path.{_≡_};
-ghost use Prim.Native.Nat.{_+_, _*_, _≤_};
+ghost use Prim.Native.Nat.{_≤_};
 ghost use lib.ListN.{length};
-ghost use Rattle.refusal.specs.Numbers.{fieldOf, numberOf};
 ghost use Rattle.layout.specs.Line.{unlawful};
 ghost use Rattle.image.specs.Images.{recordIn, sooner};
 ghost use Rattle.door.specs.Promises.{BooksIn, Checks, Clocks, Empties, Finds, NextPieces, OrdersAt, Reads, SheetsIn, StrikeForms, StrikeValues, Writes};
@@ -23,25 +22,18 @@ use writing::Written;
 
 const DONE: u32 = 0;
 
-// The one number that says a refusal.
-fn code(x: Refusal) -> u32
-    ensures { λ r. ⌜ r ≡ numberOf x + 256 * fieldOf x ⌝ }
-{
-    refusal::number(x) as u32 + 256 * refusal::field(x) as u32
-}
-
 // A piece as the 138 bytes of its record; kind is then 1. The end of the day is kind 0 and writes no record.
 #[no_mangle]
 pub extern "C" fn skurzelt_read(piece: &[u8], record: &mut [u8], kind: &mut u64) -> u32
     ensures { λ r. ⌜ Reads (now (piece .entry)) (now («record» .entry)) (now (kind .entry)) r (now («record» .exit)) (now (kind .exit)) ⌝ }
 {
     if record.len() < image::RECORD {
-        return code(Refusal::NoRoom);
+        return refusal::code(Refusal::NoRoom);
     }
     let reading = line::read(piece);
     let outcome = reading.outcome;
     match outcome {
-        Outcome::Refused(x) => code(x),
+        Outcome::Refused(x) => refusal::code(x),
         Outcome::EndOfDay => {
             *kind = 0;
             DONE
@@ -75,18 +67,18 @@ pub extern "C" fn skurzelt_write(record: &[u8], line: &mut [u8]) -> u32
     ensures { λ r. ⌜ Writes (now («record» .entry)) (now (line .entry)) r (now (line .exit)) ⌝ }
 {
     if line.len() < layout::LINE {
-        return code(Refusal::NoRoom);
+        return refusal::code(Refusal::NoRoom);
     }
     if record.len() != image::RECORD {
-        return code(Refusal::Field(24));
+        return refusal::code(Refusal::Field(24));
     }
     let odd = image::unmeant(record);
     if odd != 0 {
-        return code(Refusal::Field(first_field(record, odd)));
+        return refusal::code(Refusal::Field(first_field(record, odd)));
     }
     match writing::write(image::load(record), line) {
         Written::Done => DONE,
-        Written::Refused(x) => code(x),
+        Written::Refused(x) => refusal::code(x),
     }
 }
 
@@ -99,7 +91,7 @@ pub extern "C" fn skurzelt_strike_value(denominator: u8, strike: u64, value: &mu
             *value = v;
             DONE
         }
-        StrikeValue::Refused(x) => code(x),
+        StrikeValue::Refused(x) => refusal::code(x),
     }
 }
 
@@ -113,7 +105,7 @@ pub extern "C" fn skurzelt_strike_form(value: u64, denominator: &mut u64, strike
             *strike = f.digits;
             DONE
         }
-        StrikeForm::Refused(x) => code(x),
+        StrikeForm::Refused(x) => refusal::code(x),
     }
 }
 
@@ -135,7 +127,7 @@ pub extern "C" fn skurzelt_clock(
             *milliseconds = t.milliseconds;
             DONE
         }
-        TimeOfDay::Refused(x) => code(x),
+        TimeOfDay::Refused(x) => refusal::code(x),
     }
 }
 
@@ -145,7 +137,7 @@ pub extern "C" fn skurzelt_empty_table(table: &mut [u8]) -> u32
 {
     match table::make_empty(table) {
         Made::Done => DONE,
-        Made::Refused(x) => code(x),
+        Made::Refused(x) => refusal::code(x),
     }
 }
 
@@ -156,7 +148,7 @@ pub extern "C" fn skurzelt_check_table(table: &[u8]) -> u32
     if damage::is_sound(table) {
         return DONE;
     }
-    code(Refusal::Damaged)
+    refusal::code(Refusal::Damaged)
 }
 
 // The place of the earliest order with a key.
@@ -169,7 +161,7 @@ pub extern "C" fn skurzelt_find_order(table: &[u8], key: &[u8], place: &mut u64)
             *place = i as u64;
             DONE
         }
-        Found::Refused(x) => code(x),
+        Found::Refused(x) => refusal::code(x),
     }
 }
 
@@ -180,7 +172,7 @@ pub extern "C" fn skurzelt_order_at(table: &[u8], place: u64, order: &mut [u8]) 
 {
     match table::copy_order(table, place as usize, order) {
         Made::Done => DONE,
-        Made::Refused(x) => code(x),
+        Made::Refused(x) => refusal::code(x),
     }
 }
 
@@ -190,7 +182,7 @@ pub extern "C" fn skurzelt_book(table: &mut [u8], piece: &[u8]) -> u32
 {
     match book::book(table, piece) {
         Booking::Booked => DONE,
-        Booking::Refused(x) => code(x),
+        Booking::Refused(x) => refusal::code(x),
     }
 }
 
@@ -204,7 +196,7 @@ pub extern "C" fn skurzelt_sheet(table: &[u8], out: &mut [u8], written: &mut u64
             *written = n as u64;
             DONE
         }
-        SheetWritten::Refused(x) => code(x),
+        SheetWritten::Refused(x) => refusal::code(x),
     }
 }
 

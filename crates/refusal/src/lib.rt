@@ -1,5 +1,6 @@
 // The numbered refusals of 01, one home for all of them.
 ghost use mathlib.Core.Path.{_≡_};
+ghost use Rattle.refusal.specs.Answer.{codeFor};
 ghost use Rattle.refusal.specs.Numbers.{numberOf, fieldOf};
 
 pub enum Refusal {
@@ -67,4 +68,11 @@ pub fn field(r: Refusal) -> u8
         Refusal::NotExecuted => 0,
         Refusal::Full => 0,
     }
+}
+
+// The one number that says a refusal, with its field.
+pub fn code(r: Refusal) -> u32
+    ensures { λ n. ⌜ n ≡ codeFor r ⌝ }
+{
+    number(r) as u32 + 256 * field(r) as u32
 }

@@ -1,9 +1,9 @@
--- `door::code` meets its contract: the two parts of a refusal are what the functions that it calls answer.
+-- `refusal::code` meets its contract: number and field are what the functions that it calls answer.
 use Prim.Native.Nat.{_+_, _*_}
 use mathlib.Core.Path.{ap₂}
 use borrow.Author.Needs.{needs}
-use Rattle.door.proofs.code.Statement.{statement}
-use Rattle.door.proofs.code.Tie as tie
+use Rattle.refusal.proofs.code.Statement.{statement}
+use Rattle.refusal.proofs.code.Tie as tie
 
 number-requires : tie.Need-number-requires
 number-requires c κs = search needs
