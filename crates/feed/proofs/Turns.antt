@@ -7,18 +7,16 @@ use mathlib.Core.Bool.{true}
 use mathlib.Core.List.{List, [], _∷_, _++_, append-assoc, append-nil}
 use borrow.Author.Tests.{eq-eqb, ne-eqb, lt-ltb, le-ltb}
 use lib.Dec.{eqb}
-use lib.ListN.{length, getD, take, drop, length-take, length-drop, drop-of-length-le}
-use lib.Seq.{length-sets, length-take-le}
+use lib.ListN.{length, getD, drop, length-take, length-drop, drop-of-length-le}
+use lib.Seq.{length-sets}
 use Rattle.table.specs.Tables.{sound}
 use Rattle.book.specs.Bytes.{bookBytes, bookAnswer}
-use Rattle.run.proofs.Scan.{at-next}
 use Rattle.book.proofs.Lengths.{booked-length}
 use Rattle.book.proofs.Machine.{booked-sound}
 use Rattle.row.specs.Writes.{Wrote}
 use Rattle.sheet.proofs.Joining.{lent, back, one-text}
 use Rattle.piece.specs.Pieces.{pieces, pieceLength}
-use Rattle.piece.proofs.Firsts.{first-piece-at}
-use Rattle.piece.proofs.Lengths.{piece-some, piece-inside}
+use Rattle.piece.proofs.Lent.{part, piece-bounds, part-long, next-piece}
 use Rattle.feed.specs.Printed.{report}
 use Rattle.feed.specs.Steps.{Between, between, holdLength, keptOf, longest, nextLine, endsInLF, Step, step, after, stepOver, stepFrom, heldIn, Fits}
 use Rattle.feed.proofs.Endings.{part-ends}
@@ -71,30 +69,9 @@ first-turn chunk t hold out held line good long few =
 
 -- ---- the next piece of the chunk
 
--- as it is lent
-abbrev part : List ℕ → ℕ → ℕ → List ℕ
-part chunk used end = take (end - used) (drop used chunk)
-
 module _ (chunk : List ℕ) (used end : ℕ) (more : used < length chunk) (e : end ≡ used + pieceLength (drop used chunk)) where
-  pub piece-bounds : (used < end) × (end ≤ length chunk)
-  piece-bounds =
-      let some : 1 ≤ pieceLength (drop used chunk) = rw (at-next chunk used more) (piece-some (getD chunk used 0) (drop (used + 1) chunk)) in
-      (omega arith, omega (arith, piece-inside (drop used chunk), length-drop used chunk))
-
-  part-long : used + length (part chunk used end) ≡ end
-  part-long =
-      let b = piece-bounds in
-      ap (λ n. used + n) (length-take-le (end - used) (drop used chunk) (rw length-drop (omega arith))) ∙ omega arith
-
-  next-piece : pieces (drop used chunk) ≡ part chunk used end ∷ pieces (drop end chunk)
-  next-piece =
-      let n : pieceLength (drop used chunk) ≡ end - used = omega arith in
-      first-piece-at chunk used more
-      ∙ ap (λ k. take k (drop used chunk) ∷ pieces (drop (used + pieceLength (drop used chunk)) chunk)) n
-      ∙ ap (λ k. part chunk used end ∷ pieces (drop k chunk)) (sym e)
-
   ends-so : endsInLF (part chunk used end) ≡ eqb (getD chunk (end - 1) 0) 10
-  ends-so = part-ends chunk used end (piece-bounds .0) (piece-bounds .1)
+  ends-so = let b = piece-bounds chunk used end more e in part-ends chunk used end (b .0) (b .1)
 
 -- ---- what the code answers
 

@@ -2,6 +2,8 @@
 pub mod Lengths
 -- The next piece by its length, and those behind it
 pub mod Firsts
+-- The next piece as a loop lends it
+pub mod Lent
 -- What `next` answers is the first piece left
 pub mod Promised
 -- The pieces of a text that starts with a known run

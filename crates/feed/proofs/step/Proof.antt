@@ -4,9 +4,10 @@ use native.Mathlib.Omega.{arith}
 use mathlib.Core.Path.{_≡_, refl}
 use denote.Ref.{now}
 use lib.ListN.{length}
+use Rattle.piece.proofs.Lent.{piece-bounds}
 use Rattle.lookup.specs.Beside.{Beside}
 use Rattle.feed.specs.Steps.{between, heldIn, stepFrom}
-use Rattle.feed.proofs.Turns.{Turn, first-turn, piece-bounds, same-long, room-lent, room-said, at-chunk-end, keeps-begun, stops, next-turn}
+use Rattle.feed.proofs.Turns.{Turn, first-turn, same-long, room-lent, room-said, at-chunk-end, keeps-begun, stops, next-turn}
 use borrow.Author.Needs.{needs}
 use Rattle.feed.proofs.step.Statement.{statement}
 use Rattle.feed.proofs.step.Tie as tie
