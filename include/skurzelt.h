@@ -1,7 +1,7 @@
 /* Skurzelt: QUO DROP lines, the table of a day's orders, and the family sheet.
 
-   Lending. The library keeps nothing and allocates nothing. A caller lends bytes (a pointer and a length) and numbers (a pointer to one) for the
-   time of one call. What is lent as const is only read. Two buffers lent to one call as const may overlap (a key may stand inside its own table); a
+   Lending. The library keeps nothing and allocates nothing. A caller lends bytes or answers (a pointer and how many) and numbers (a pointer to one)
+   for the time of one call. What is lent as const is only read. Two buffers lent to one call as const may overlap (a key may stand inside its own table); a
    buffer or number that is not const must not overlap anything else lent to that call. A pointer must not be null, even where the length is 0. Calls
    on different tables may run at the same time.
 
@@ -86,6 +86,12 @@ uint32_t skurzelt_order_at(const uint8_t *table, size_t table_length, uint64_t p
 
 /* Books a piece. Refuses 5, 1, 2, 3, then 6 to 12. */
 uint32_t skurzelt_book(uint8_t *table, size_t table_length, const uint8_t *piece, size_t piece_length);
+
+/* Books the pieces of a text one after another, with one damage check for all of them: answers[i] becomes 0 or the refusal of piece i, counted from
+   0. Ends with the text, or when answers is full. *used is then how many bytes of the text were used, and *booked how many pieces, the refused ones
+   among them; the answers behind these stay as they were. The answers and the table are exactly those of a call of skurzelt_book for each piece in
+   turn. A next call may go on at text + *used. Refuses 5, before anything. */
+uint32_t skurzelt_book_all(uint8_t *table, size_t table_length, const uint8_t *text, size_t text_length, uint32_t *answers, size_t answers_length, uint64_t *used, uint64_t *booked);
 
 /* Writes the family sheet into the first *written bytes of out. Refuses 5, then 4 (out too short). */
 uint32_t skurzelt_sheet(const uint8_t *table, size_t table_length, uint8_t *out, size_t out_length, uint64_t *written);

@@ -89,7 +89,40 @@ static void tables(const uint8_t *line)
     expect("the sheet", memcmp(sheet, wanted, strlen(wanted)), 0);
 }
 
-/* Standard input is a capture whose first line is A T1 for 100 of ABCD01. */
+/* The whole of a text, then its first piece again with no room for more, then a damaged table. */
+static void texts(const uint8_t *text, size_t length)
+{
+    static uint8_t table[SKURZELT_TABLE], alone[SKURZELT_TABLE];
+    uint32_t answers[16];
+    uint64_t used = 7, booked = 7, at = 0, end;
+    memset(answers, 0xAA, sizeof answers);
+    expect("empty_table", skurzelt_empty_table(table, sizeof table), 0);
+    expect("empty_table of another", skurzelt_empty_table(alone, sizeof alone), 0);
+    expect("book_all", skurzelt_book_all(table, sizeof table, text, length, answers, 16, &used, &booked), 0);
+    expect("bytes used", used, length);
+    expect("pieces used", booked, 8);
+    for (unsigned i = 0; i < 8; i++) {
+        skurzelt_next_piece(text, length, at, &end);
+        expect("an answer", answers[i], skurzelt_book(alone, sizeof alone, text + at, end - at));
+        at = end;
+    }
+    expect("the answer behind the last", answers[8], 0xAAAAAAAA);
+    expect("the table", memcmp(table, alone, sizeof table), 0);
+    expect("book_all with room for one answer", skurzelt_book_all(table, sizeof table, text, length, answers, 1, &used, &booked), 0);
+    expect("bytes of one piece", used, SKURZELT_LINE);
+    expect("one piece", booked, 1);
+    expect("its answer", answers[0], SKURZELT_DAY_OVER);
+    expect("book_all with no room", skurzelt_book_all(table, sizeof table, text, length, answers, 0, &used, &booked), 0);
+    expect("no bytes", used, 0);
+    expect("no pieces", booked, 0);
+    used = booked = 7;
+    table[4] = 2;
+    expect("book_all, damaged", skurzelt_book_all(table, sizeof table, text, length, answers, 16, &used, &booked), SKURZELT_DAMAGED);
+    expect("bytes used, damaged", used, 7);
+    expect("pieces used, damaged", booked, 7);
+}
+
+/* Standard input is a capture of eight pieces whose first line is A T1 for 100 of ABCD01. */
 int main(void)
 {
     static uint8_t text[4096];
@@ -101,5 +134,6 @@ int main(void)
     lines(text);
     numbers();
     tables(text);
+    texts(text, length);
     return failed;
 }

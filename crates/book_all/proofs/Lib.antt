@@ -2,6 +2,8 @@
 pub mod Turns
 -- A damaged table is refused before anything
 pub mod Damaged
+-- The answers that are given, one by one
+pub mod Given
 -- One call says what a call for each piece says
 pub mod InTurn
 -- A text in several calls is the text in one

@@ -20,16 +20,13 @@ use Rattle.book_all.specs.InTurn.{answersTo, firstPieces}
 use Rattle.book_all.specs.Promises.{bookedAllOf}
 use Rattle.book_all.specs.Wrong.{Keeps, LeavesOut, JudgesByFirst, TakesDamaged}
 use Rattle.book_all.specs.declared.BookedAll.{BookedAll}
+use Rattle.book_all.proofs.Given.{answers-long}
 
 -- ---- answers for all pieces
 
 take-all : (ps : List (List ℕ)) → take (length ps) ps ≡ ps
 take-all [] = refl
 take-all (p ∷ ps) = ap (λ (qs : List (List ℕ)). p ∷ qs) (take-all ps)
-
-long : (table : List ℕ) (ps : List (List ℕ)) → length (answersTo table ps) ≡ length ps
-long table [] = refl
-long table (p ∷ ps) = ap suc (long (bookBytes table p) ps)
 
 replicated : (n x i : ℕ) → i < n → getD (replicate n x) i 0 ≡ x
 replicated zero x i h = absurd (omega arith)
@@ -67,7 +64,7 @@ module _ {bookAll : List ℕ → List ℕ → List ℕ → BookedAll × List ℕ
   given-all table text answers e n =
       let first : firstPieces (length answers) text ≡ pieces text = rw n (take-all (pieces text)) in
       (rw (e, first) at (keeps table text answers .told))
-      ∙ sets-whole answers (answersTo table (pieces text)) (long table (pieces text) ∙ sym n)
+      ∙ sets-whole answers (answersTo table (pieces text)) (answers-long table (pieces text) ∙ sym n)
 
   pub leaves-out : LeavesOut bookAll → ⊥
   leaves-out (table, text, i, good, there, out) =

@@ -26,12 +26,16 @@ use Rattle.table.specs.declared.Made.the-variants.{Done, Refused}
 use Rattle.book.specs.Promises.{bookingOf, Books}
 use Rattle.book.specs.declared.Booking.{Booking}
 use Rattle.book.specs.declared.Booking.the-variants.{Booked, Refused as Booking·Refused}
+use Rattle.book_all.specs.Promises.{bookAllAnswer, bookedAllOf, BooksAll}
+use Rattle.book_all.specs.declared.BookedAll.{BookedAll}
+use Rattle.book_all.specs.declared.BookedAll.the-variants.{Done as BookedAll·Done, Refused as BookedAll·Refused}
+use Rattle.book_all.specs.declared.Used.{Used}
 use Rattle.sheet.specs.Promises.{sheetAnswer, sheetWrittenOf, Sheets}
 use Rattle.sheet.specs.declared.SheetWritten.{SheetWritten}
 use Rattle.sheet.specs.declared.SheetWritten.the-variants.{Done as SheetWritten·Done, Refused as SheetWritten·Refused}
 use Rattle.piece.specs.Pieces.{nextPiece}
 use Rattle.piece.specs.declared.Ahead.{Ahead}
-use Rattle.door.specs.Promises.{numberAfter, endOf, StrikeValues, StrikeForms, Clocks, Empties, Checks, Finds, OrdersAt, BooksIn, SheetsIn, NextPieces}
+use Rattle.door.specs.Promises.{numberAfter, endOf, StrikeValues, StrikeForms, Clocks, Empties, Checks, Finds, OrdersAt, BooksIn, BooksAllIn, SheetsIn, NextPieces}
 
 -- ---- an answer as one number, and in a lent number
 
@@ -143,6 +147,29 @@ module _ (before piece : List ℕ) (x : Booking) (after : List ℕ) (h : Books b
 
   pub unbooked : (y : Refusal) (k : ℕ) → x ≡ Booking·Refused y → k ≡ codeFor y → BooksIn before piece k after
   unbooked y k e c = record { said = says-refusal (ap bookingOf (sym e) ∙ h .said) c; out = h .out }
+
+module _ (table text answers : List ℕ) (used booked : ℕ) (x : BookedAll) (after given : List ℕ) (h : BooksAll table text answers x after given) where
+  pub booked-all : (u : Used) → x ≡ BookedAll·Done u → BooksAllIn table text answers used booked 0 after given (u .bytes) (u .pieces)
+  booked-all u e =
+      let s : value u ≡ bookAllAnswer table text answers = ap bookedAllOf (sym e) ∙ h .said in
+      record {
+        said = says-value s;
+        out = h .out;
+        told = h .told;
+        bytes = tells-value (λ (u : Used). u .bytes) used s;
+        pieces = tells-value (λ (u : Used). u .pieces) booked s;
+      }
+
+  pub unbooked-all : (y : Refusal) (k : ℕ) → x ≡ BookedAll·Refused y → k ≡ codeFor y → BooksAllIn table text answers used booked k after given used booked
+  unbooked-all y k e c =
+      let s : refusedBy y ≡ bookAllAnswer table text answers = ap bookedAllOf (sym e) ∙ h .said in
+      record {
+        said = says-refusal s c;
+        out = h .out;
+        told = h .told;
+        bytes = tells-nothing (λ (u : Used). u .bytes) used s;
+        pieces = tells-nothing (λ (u : Used). u .pieces) booked s;
+      }
 
 module _ (table before : List ℕ) (written : ℕ) (x : SheetWritten) (after : List ℕ) (h : Sheets table before x after) where
   pub sheeted : (n : ℕ) → x ≡ SheetWritten·Done n → SheetsIn table before written 0 after n

@@ -1,13 +1,13 @@
 -- The tender's demand 1, proved: every answer is 0 or a numbered refusal, and what is refused is left as it was.
-use Prim.Native.Nat.{ℕ, zero, suc, _/_, _%_}
+use Prim.Native.Nat.{ℕ, zero, suc, _<_, _/_, _%_}
 use native.Mathlib.Omega.{arith}
 use mathlib.Core.Path.{_≡_, refl, sym, ap, _∙_}
 use mathlib.Core.Bool.{Bool, true, false, cond, not, _&&_, _||_, false≢true}
-use mathlib.Core.List.{List}
+use mathlib.Core.List.{List, [], _∷_}
 use mathlib.Core.Logic.{inl, inr, ⊎-elim}
 use borrow.Author.Tests.{not-true, eqb-true}
 use lib.Dec.{ltb, leb, eqb}
-use lib.ListN.{length, replicate}
+use lib.ListN.{length, getD, replicate}
 use Rattle.run.specs.Runs.{member}
 use Rattle.run.proofs.Tests.{both as holds, either}
 use Rattle.field.proofs.Fill.{between, is-between}
@@ -33,12 +33,17 @@ use Rattle.day.proofs.Chain.{first-number}
 use Rattle.table.specs.Entries.{placeOr8, lookUpAnswer, copyAnswer, copiedFrom}
 use Rattle.slot.specs.Slots.{slotWidth, keyIn}
 use Rattle.table.specs.Tables.{tableLength, leastLimit, limitOf, countIn, tableIn, sound, makeAnswer, madeFrom}
-use Rattle.book.specs.Bytes.{bookAnswer}
+use Rattle.book.specs.Bytes.{bookAnswer, bookBytes}
 use Rattle.book.proofs.Refuted.{refusal-stays}
+use Rattle.piece.specs.Pieces.{pieces}
+use Rattle.book_all.specs.InTurn.{answersTo, firstPieces}
+use Rattle.book_all.specs.Promises.{usedOf, bookAllAnswer, tableFrom, answersFrom}
+use Rattle.book_all.specs.declared.Used.{Used}
+use Rattle.book_all.proofs.Given.{first-few, first-of}
 use Rattle.sheet.specs.Promises.{textOf, sheetAnswer, sheetFrom}
 use Rattle.door.specs.Demand1.{Answers, Refuses, Demand1}
 use Rattle.image.specs.Images.{odd, unmeant, recordIn, sooner, unwritable}
-use Rattle.door.specs.Promises.{numberAfter, readAnswer, kindOf, recordAfter, writeAnswer}
+use Rattle.door.specs.Promises.{numberAfter, readAnswer, kindOf, recordAfter, writeAnswer, BooksAllIn}
 
 -- ---- a value, or a numbered refusal
 
@@ -175,6 +180,32 @@ book-told s p = both Told (sound s) (go (readLine p) (read-says p refl)) (other 
         (day-told (limitOf (length s)) (tableIn s) x)
     go (refused n f) h = unread-told p h
 
+-- the answers to pieces one after another
+each-answers : (table : List ℕ) (ps : List (List ℕ)) (i : ℕ) → i < length ps → Answers (getD (answersTo table ps) i 0)
+each-answers table [] i h = absurd (omega arith)
+each-answers table (p ∷ ps) zero h = told (book-told table p) refl
+each-answers table (p ∷ ps) (suc i) h = each-answers (bookBytes table p) ps i (omega arith)
+
+book-all-told : (table text answers : List ℕ) → Told (bookAllAnswer table text answers)
+book-all-told table text answers = both Told (sound table) (given _) (other Damaged refl)
+
+-- of a text that was taken, each answer that was given
+all-answered : (table text answers : List ℕ) (used booked r : ℕ) (after last : List ℕ) (used' booked' : ℕ)
+    → BooksAllIn table text answers used booked r after last used' booked' → r ≡ 0 → (i : ℕ) → i < booked' → Answers (getD last i 0)
+all-answered table text answers used booked r after last used' booked' h z = go (sound table) (h .said) (h .told) (h .pieces)
+  where
+    ps : List (List ℕ)
+    ps = firstPieces (length answers) text
+
+    answer : Bool → Answer Used
+    answer b = cond b (value (usedOf (length answers) text)) (refused 5 0)
+
+    go : (b : Bool) → r ≡ codeOf (answer b) → last ≡ answersFrom (answer b) table text answers
+        → booked' ≡ numberAfter (λ (u : Used). u .pieces) (answer b) booked → (i : ℕ) → i < booked' → Answers (getD last i 0)
+    go true e k n i l =
+        rw (k, first-of answers table ps i (omega arith) (first-few (length answers) (pieces text))) (each-answers table ps i (omega arith))
+    go false e k n i l = absurd (omega arith)
+
 -- ---- what a refusal leaves
 
 -- an answer whose code is not 0 is refused
@@ -205,6 +236,8 @@ demand1 =
       find-order-answers = λ table key p r p' h. told (look-up-told table key) (h .said);
       order-at-answers = λ table i before r after h. told (copy-told table i before) (h .said);
       book-answers = λ before piece r after h. told (book-told before piece) (h .said);
+      book-all-answers = λ table text answers used booked r after given used' booked' h.
+          (told (book-all-told table text answers) (h .said), all-answered table text answers used booked r after given used' booked' h);
       sheet-answers = λ table before n r after n' h. told (sheet-told table before) (h .said);
       next-piece-answers = λ text at r e' h. h .said;
       read-stays = λ piece before kind r after kind' h k.
@@ -227,6 +260,13 @@ demand1 =
       order-at-stays = λ table i before r after h k.
           lent-stays (copyAnswer table i before) (h .said) k (λ a. copiedFrom a table i before) (λ n f. refl) (h .out);
       book-stays = λ before piece r after h k. h .out ∙ refusal-stays before piece (sym (refusal (bookAnswer before piece) (h .said) k .2));
+      book-all-stays = λ table text answers used booked r after given used' booked' h k.
+          let a = bookAllAnswer table text answers in (
+            lent-stays a (h .said) k (λ a. tableFrom a table text answers) (λ n f. refl) (h .out),
+            lent-stays a (h .said) k (λ a. answersFrom a table text answers) (λ n f. refl) (h .told),
+            number-stays a (h .said) k (λ (u : Used). u .bytes) used (h .bytes),
+            number-stays a (h .said) k (λ (u : Used). u .pieces) booked (h .pieces),
+          );
       sheet-stays = λ table before n r after n' h k.
           let a = sheetAnswer table before in
           (lent-stays a (h .said) k (λ a. sheetFrom a table before) (λ n f. refl) (h .out), number-stays a (h .said) k (λ x. x) n (h .told));

@@ -2,7 +2,7 @@
 use Prim.Native.Nat.{ℕ}
 use mathlib.Core.Path.{_≡_, sym, _∙_}
 use mathlib.Core.List.{List}
-use Rattle.door.specs.Promises.{Reads, Writes, StrikeValues, StrikeForms, Clocks, Empties, Checks, Finds, OrdersAt, BooksIn, SheetsIn, NextPieces}
+use Rattle.door.specs.Promises.{Reads, Writes, StrikeValues, StrikeForms, Clocks, Empties, Checks, Finds, OrdersAt, BooksIn, BooksAllIn, SheetsIn, NextPieces}
 
 one : {A : Type 0} {x y z : A} → x ≡ z → y ≡ z → x ≡ y
 one p q = p ∙ sym q
@@ -42,6 +42,12 @@ orders-at-determined table i before r q a b x y = (one (x .said) (y .said), one 
 
 pub books-in-determined : (before piece : List ℕ) (r q : ℕ) (a b : List ℕ) → BooksIn before piece r a → BooksIn before piece q b → (r ≡ q) × (a ≡ b)
 books-in-determined before piece r q a b x y = (one (x .said) (y .said), one (x .out) (y .out))
+
+pub books-all-in-determined : (table text answers : List ℕ) (used booked r q : ℕ) (a b g h : List ℕ) (i j k l : ℕ)
+    → BooksAllIn table text answers used booked r a g i k → BooksAllIn table text answers used booked q b h j l
+    → (r ≡ q) × (a ≡ b) × (g ≡ h) × (i ≡ j) × (k ≡ l)
+books-all-in-determined table text answers used booked r q a b g h i j k l x y =
+    (one (x .said) (y .said), one (x .out) (y .out), one (x .told) (y .told), one (x .bytes) (y .bytes), one (x .pieces) (y .pieces))
 
 pub sheets-in-determined : (table before : List ℕ) (n r q : ℕ) (a b : List ℕ) (i j : ℕ)
     → SheetsIn table before n r a i → SheetsIn table before n q b j → (r ≡ q) × (a ≡ b) × (i ≡ j)

@@ -16,6 +16,8 @@ use Rattle.layout.specs.declared.Strike.{Strike}
 use Rattle.table.specs.Entries.{lookUpAnswer, copyAnswer, copiedFrom}
 use Rattle.table.specs.Tables.{makeAnswer, madeFrom, sound}
 use Rattle.book.specs.Bytes.{bookAnswer, bookBytes}
+use Rattle.book_all.specs.Promises.{bookAllAnswer, tableFrom, answersFrom}
+use Rattle.book_all.specs.declared.Used.{Used}
 use Rattle.sheet.specs.Promises.{sheetAnswer, sheetFrom}
 use Rattle.piece.specs.Pieces.{nextPiece}
 use Rattle.piece.specs.declared.Ahead.{Ahead}
@@ -103,6 +105,14 @@ pub record OrdersAt (table : List ℕ) (i : ℕ) (before : List ℕ) (r : ℕ) (
 pub record BooksIn (before piece : List ℕ) (r : ℕ) (after : List ℕ) : Type 0 where
   pub said : r ≡ codeOf (bookAnswer before piece)
   pub out : after ≡ bookBytes before piece
+
+-- `skurzelt_book_all`
+pub record BooksAllIn (table text answers : List ℕ) (used booked r : ℕ) (after given : List ℕ) (used' booked' : ℕ) : Type 0 where
+  pub said : r ≡ codeOf (bookAllAnswer table text answers)
+  pub out : after ≡ tableFrom (bookAllAnswer table text answers) table text answers
+  pub told : given ≡ answersFrom (bookAllAnswer table text answers) table text answers
+  pub bytes : used' ≡ numberAfter (λ (u : Used). u .bytes) (bookAllAnswer table text answers) used
+  pub pieces : booked' ≡ numberAfter (λ (u : Used). u .pieces) (bookAllAnswer table text answers) booked
 
 -- `skurzelt_sheet`
 pub record SheetsIn (table before : List ℕ) (n r : ℕ) (after : List ℕ) (n' : ℕ) : Type 0 where

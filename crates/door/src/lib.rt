@@ -5,8 +5,9 @@ ghost use Prim.Native.Nat.{_≤_};
 ghost use lib.ListN.{length};
 ghost use Rattle.layout.specs.Line.{unlawful};
 ghost use Rattle.image.specs.Images.{recordIn, sooner};
-ghost use Rattle.door.specs.Promises.{BooksIn, Checks, Clocks, Empties, Finds, NextPieces, OrdersAt, Reads, SheetsIn, StrikeForms, StrikeValues, Writes};
+ghost use Rattle.door.specs.Promises.{BooksAllIn, BooksIn, Checks, Clocks, Empties, Finds, NextPieces, OrdersAt, Reads, SheetsIn, StrikeForms, StrikeValues, Writes};
 use book::Booking;
+use book_all::BookedAll;
 use line::Outcome;
 use line::StrikeForm;
 use line::StrikeValue;
@@ -183,6 +184,27 @@ pub extern "C" fn skurzelt_book(table: &mut [u8], piece: &[u8]) -> u32
     match book::book(table, piece) {
         Booking::Booked => DONE,
         Booking::Refused(x) => refusal::code(x),
+    }
+}
+
+// A text in one call: answers has 0 or a refusal for each piece, used is how many bytes of the text were used, booked how many pieces.
+#[no_mangle]
+pub extern "C" fn skurzelt_book_all(
+    table: &mut [u8],
+    text: &[u8],
+    answers: &mut [u32],
+    used: &mut u64,
+    booked: &mut u64,
+) -> u32
+    ensures { λ r. ⌜ BooksAllIn (now (table .entry)) (now (text .entry)) (now (answers .entry)) (now (used .entry)) (now (booked .entry)) r (now (table .exit)) (now (answers .exit)) (now (used .exit)) (now (booked .exit)) ⌝ }
+{
+    match book_all::book(table, text, answers) {
+        BookedAll::Done(u) => {
+            *used = u.bytes as u64;
+            *booked = u.pieces as u64;
+            DONE
+        }
+        BookedAll::Refused(x) => refusal::code(x),
     }
 }
 
