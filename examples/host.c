@@ -1,10 +1,14 @@
-/* A small host: books the pieces of a capture from standard input and prints its sheet, as the sheet program does. */
+/* A small host: books the pieces of a capture from standard input and prints its sheet, as the sheet program does. Called as `host words` it says beside
+   each refused line why it was refused. */
 
 #include <inttypes.h>
 #include <stdio.h>
 #include <stdlib.h>
+#include <string.h>
 
 #include "skurzelt.h"
+
+#define ANSWERS 4096
 
 static int failed(const char *what)
 {
@@ -33,18 +37,22 @@ static uint8_t *read_all(size_t *length)
     return NULL;
 }
 
-static void report(uint64_t line, uint32_t answer)
+static void report(uint64_t line, uint32_t answer, int in_words)
 {
     printf("line %" PRIu64 " refused %u", line, skurzelt_refusal(answer));
     if (skurzelt_field(answer) != 0)
         printf(" field %u", skurzelt_field(answer));
+    if (in_words)
+        printf(": %s", skurzelt_refusal_text(answer));
     putchar('\n');
 }
 
-int main(void)
+int main(int argc, char **argv)
 {
+    int in_words = argc > 1 && strcmp(argv[1], "words") == 0;
     static uint8_t table[SKURZELT_TABLE];
     static uint8_t sheet[SKURZELT_SHEET];
+    static uint32_t answers[ANSWERS];
     size_t length;
     uint8_t *text = read_all(&length);
     if (text == NULL)
@@ -52,21 +60,27 @@ int main(void)
     /* What could not be read must not pass for the end of the capture. */
     if (ferror(stdin))
         return failed("the input could not be read");
-    if (skurzelt_empty_table(table, sizeof table) != 0)
-        return failed("no empty table");
+    uint32_t answer = skurzelt_empty_table(table, sizeof table);
+    if (answer != 0)
+        return failed(skurzelt_refusal_text(answer));
 
-    uint64_t at = 0, end, line = 0;
-    while (skurzelt_next_piece(text, length, at, &end) == 0 && end != at) {
-        uint32_t answer = skurzelt_book(table, sizeof table, text + at, end - at);
-        line++;
+    /* As many pieces a call as there is room for answers. */
+    uint64_t line = 0, used, booked;
+    for (size_t at = 0; at < length; at += used) {
+        answer = skurzelt_book_all(table, sizeof table, text + at, length - at, answers, ANSWERS, &used, &booked);
         if (answer != 0)
-            report(line, answer);
-        at = end;
+            return failed(skurzelt_refusal_text(answer));
+        for (uint64_t i = 0; i < booked; i++) {
+            line++;
+            if (answers[i] != 0)
+                report(line, answers[i], in_words);
+        }
     }
 
     uint64_t written;
-    if (skurzelt_sheet(table, sizeof table, sheet, sizeof sheet, &written) != 0)
-        return failed("no sheet");
+    answer = skurzelt_sheet(table, sizeof table, sheet, sizeof sheet, &written);
+    if (answer != 0)
+        return failed(skurzelt_refusal_text(answer));
     fwrite(sheet, 1, written, stdout);
     free(text);
     /* What could not be written must not pass for a sheet. */

@@ -49,6 +49,29 @@ enum {
 static inline unsigned skurzelt_refusal(uint32_t answer) { return answer % 256; }
 static inline unsigned skurzelt_field(uint32_t answer) { return answer / 256; }
 
+/* When the refusal in an answer is given, in the words of the build paper; an empty text for an answer that is none. The 512 of a 12 is the limit of
+   the table. */
+static inline const char *skurzelt_refusal_text(uint32_t answer)
+{
+    static const char *const words[] = {
+        "",
+        "the piece is neither CR LF alone nor 140 bytes ending in CR LF",
+        "one of the 138 bytes is outside 20 to 7E hex",
+        "a field breaks its rule; the number of the first comes with it",
+        "the caller's buffer is too short for the output",
+        "the table is damaged",
+        "end of day was booked before",
+        "A or U: the key is in the table",
+        "E C X R: the key isn't in the table; U: the elder's key isn't",
+        "E C X R U: side or series differs from that order's (for U, the elder's)",
+        "E X: n is more than open; U R: open is 0",
+        "C: n is more than executed less broken",
+        "A or U: the table holds 512"
+    };
+    unsigned number = skurzelt_refusal(answer);
+    return number < sizeof words / sizeof words[0] ? words[number] : "";
+}
+
 /* ---- lines and records */
 
 /* Reads a piece. A line sets *kind to 1 and writes the first 138 bytes of record; the end of the day (CR LF alone) sets *kind to 0 and writes

@@ -15,6 +15,16 @@ static void expect(const char *what, uint64_t got, uint64_t wanted)
     }
 }
 
+static void words(void)
+{
+    expect("the words of no refusal", strlen(skurzelt_refusal_text(0)), 0);
+    expect("the words of a 1", strcmp(skurzelt_refusal_text(SKURZELT_NO_LINE), "the piece is neither CR LF alone nor 140 bytes ending in CR LF"), 0);
+    expect("the words of a 3, field 24", strcmp(skurzelt_refusal_text(SKURZELT_FIELD + 256 * 24), "a field breaks its rule; the number of the first comes with it"), 0);
+    expect("the words of a 12", strcmp(skurzelt_refusal_text(SKURZELT_FULL), "A or U: the table holds 512"), 0);
+    expect("the words of a 13", strlen(skurzelt_refusal_text(13)), 0);
+    expect("the words of a 255", strlen(skurzelt_refusal_text(255)), 0);
+}
+
 /* The first piece of a text: its length. */
 static size_t first_piece(const uint8_t *text, size_t length)
 {
@@ -131,6 +141,7 @@ int main(void)
         puts("door: no line to begin with");
         return 1;
     }
+    words();
     lines(text);
     numbers();
     tables(text);
