@@ -48,6 +48,21 @@ pub fn number(word: &[u8], code: u32, n: u64) {
     left(code, &[n]);
 }
 
+// A list of answers, each as its one number, in brackets.
+pub fn answers(list: &[u32]) {
+    text(b" [");
+    let mut i = 0;
+    while i < list.len() {
+        one(list[i]);
+        i += 1;
+    }
+    text(b"]");
+}
+
+fn one(code: u32) {
+    numbered(b" ", code as u64);
+}
+
 pub fn answer(code: u32) {
     if code == 0 {
         text(b" done");

@@ -9,6 +9,13 @@ pub fn table() -> [u8; 41_100]
     [0; 41_100]
 }
 
+// Room for the most answers, all of them a number that no answer is.
+pub fn answers() -> [u32; 1_000]
+    ensures { λ r. ⌜ 1000 ≡ length r ⌝ }
+{
+    [99_999; 1_000]
+}
+
 // Room for the longest output, all of it dots, so that it shows which bytes were written.
 pub fn output() -> [u8; 60_000]
     ensures { λ r. ⌜ 60000 ≡ length r ⌝ }

@@ -21,6 +21,7 @@ fn in_hand(kind: u8, s: &[u8], t: &mut [u8]) -> bool {
         b'l' => look_up(s, t),
         b'o' => copy_order(s, t),
         b'b' => book(s, t),
+        b'a' => book_all(s, t),
         b'h' => sheet(s, t),
         _ => false,
     }
@@ -117,6 +118,39 @@ fn book(piece: &[u8], t: &mut [u8]) -> bool {
     let code = door::skurzelt_book(t, piece);
     changed(b"book", code, t);
     true
+}
+
+fn book_all(s: &[u8], t: &mut [u8]) -> bool {
+    if s.len() < 2 {
+        return false;
+    }
+    let mut answers = space::answers();
+    booked_in(t, &s[2..], &mut answers, cell::get(s, 0, 2) as usize)
+}
+
+// A text in one call, with room for n answers.
+fn booked_in(t: &mut [u8], text: &[u8], answers: &mut [u32], n: usize) -> bool {
+    if answers.len() < n {
+        return false;
+    }
+    let mut used = 7;
+    let mut booked = 8;
+    let code = door::skurzelt_book_all(t, text, &mut answers[0..n], &mut used, &mut booked);
+    say::numbered(b"all ", n as u64);
+    used_up(code, used, booked);
+    say::sum(t);
+    say::answers(&answers[0..n]);
+    true
+}
+
+// How much of a text was used, or the refusal and what was lent.
+fn used_up(code: u32, used: u64, booked: u64) {
+    if code == 0 {
+        say::numbered(b" done ", used);
+        say::numbered(b" ", booked);
+        return;
+    }
+    say::left(code, &[used, booked]);
 }
 
 fn sheet(s: &[u8], t: &[u8]) -> bool {

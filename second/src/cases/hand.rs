@@ -2,12 +2,14 @@
 
 use std::io::Write;
 
-use crate::cases::case::{order_payload, patch_payload, put, Written};
-use crate::cases::shorthand::{key, piece};
+use crate::cases::case::{order_payload, patch_payload, put, room_payload, Written};
+use crate::cases::shorthand::{capture, key, piece};
 use crate::rules::table::{self, SLOT};
 
 /// A sheet's buffer with room for a few orders.
 const ROOM: u32 = 2_000;
+/// How many questions `ask` has.
+pub const ENTRIES: usize = 7;
 
 pub struct Hand<'a> {
     table: Vec<u8>,
@@ -75,24 +77,31 @@ impl Hand<'_> {
         self.put(b'b', piece)
     }
 
+    /// Books a text in one call, with room for so many answers.
+    pub fn book_all(&mut self, room: u16, text: &[u8]) -> Written {
+        let _ = table::book_all(&mut self.table, text, &mut vec![0; room.into()]);
+        self.put(b'a', &room_payload(room, text))
+    }
+
     pub fn sheet(&mut self, room: u32) -> Written {
         self.put(b'h', &room.to_le_bytes())
     }
 
     /// One of the entries that refuse a damaged table, by a number that may be any.
     pub fn ask(&mut self, entry: usize) -> Written {
-        match entry % 6 {
+        match entry % ENTRIES {
             0 => self.look_up(&key("T9")),
             1 => self.show(0, 80),
             2 => self.book(&piece("E T4 1")),
             3 => self.sheet(ROOM),
             4 => self.book(&piece("A T10 5")),
+            5 => self.book_all(3, &capture("E T4 1; A T10 5; A T10 5")),
             // Even what is no piece is refused by its table first.
             _ => self.book(b"A"),
         }
     }
 
     pub fn ask_all(&mut self) -> Written {
-        (0..6).try_for_each(|entry| self.ask(entry))
+        (0..ENTRIES).try_for_each(|entry| self.ask(entry))
     }
 }

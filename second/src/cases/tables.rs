@@ -1,24 +1,26 @@
 //! Cases about lent tables: lengths, every refusal of booking, sheets, and random traffic.
 
-use crate::cases::case::{order_payload, patch_payload, Written};
+use crate::cases::case::{order_payload, patch_payload, room_payload, Written};
 use crate::cases::contents::{broken, with};
 use crate::cases::damages;
-use crate::cases::hand::Hand;
+use crate::cases::hand::{Hand, ENTRIES};
 use crate::cases::random::Random;
-use crate::cases::shorthand::{key, other, piece, OTHERS};
+use crate::cases::shorthand::{capture, key, other, piece, OTHERS};
 use crate::cases::sound_tables::{day_of, full_table, junk, random_day, rich_table, stored, RICH_ORDERS};
 use crate::cases::stream::Stream;
 use crate::rules::day::{Day, MOST};
 use crate::rules::fields::{CR_LF, FIELDS, LF, LINE};
 use crate::rules::sheet;
 use crate::rules::table::{self, slot, HEADER, SLOT, TABLE};
-use crate::rules::trial::{LONGEST, LONGEST_TABLE, WIDEST_SHEET};
+use crate::rules::trial::{LONGEST, LONGEST_TABLE, MOST_ANSWERS, WIDEST_SHEET};
 
 /// How many tables the random traffic is booked on, and how many orders they begin with.
 const TABLES: usize = 16;
 const GIVEN: [usize; 8] = [0, 3, 40, 200, 400, 508, 511, 512];
 /// The longest piece of the traffic, or little less.
 const LONGEST_PIECE: usize = 2_000;
+/// How many pieces of it are booked in one call, less one at most, and how many answers there is room for then.
+const AT_ONCE: usize = 16;
 
 /// Writes those that are no random ones.
 pub fn bounds(random: &mut Random, hand: &mut Hand) -> Written {
@@ -28,6 +30,7 @@ pub fn bounds(random: &mut Random, hand: &mut Hand) -> Written {
     bookings(random, hand)?;
     bookings_when_full(random, hand)?;
     repeated_keys(random, hand)?;
+    texts_at_once(random, hand)?;
     sheets(random, hand)?;
     bad_cases(random, hand)
 }
@@ -72,7 +75,7 @@ fn any_bytes(random: &mut Random, hand: &mut Hand) -> Written {
         for count in [1, 2, 9, 511, 512] {
             hand.patch(0, &[count as u8, (count >> 8) as u8, 0, 0, 0, 0, 0, 0])?;
             hand.check()?;
-            hand.ask(random.below(6))?;
+            hand.ask(random.below(ENTRIES))?;
         }
         hand.patch(0, &[0, 0, 0, 0, 1, 0, 0, 0])?;
         hand.check()?;
@@ -207,6 +210,59 @@ fn repeated_keys(random: &mut Random, hand: &mut Hand) -> Written {
     Ok(())
 }
 
+// Texts in one call.
+
+/// How many answers: none, one, fewer than the text has pieces, as many, and more.
+fn rooms(text: &[u8]) -> [u16; 6] {
+    let pieces = text.split_inclusive(|byte| *byte == LF).count() as u16;
+    [0, 1, pieces.saturating_sub(1), pieces, pieces + 1, MOST_ANSWERS as u16]
+}
+
+/// Texts of no piece, of one and of many; too long pieces, and a last one that is cut. Each into tables of any contents
+/// and lengths, with every room; and the same text again in its pieces.
+fn texts_at_once(random: &mut Random, hand: &mut Hand) -> Written {
+    let line = piece("A T10 5");
+    let lines = capture("E T9 1; E T9 50; A T10 5; U T11 for T10, 6; A T10 7; E T99 1; X T11 7; R T11 1; C T9 1");
+    let many: Vec<_> = (20..40).flat_map(|number| piece(&format!("A T{number} {number}"))).collect();
+    let long = [line.clone(), vec![b'x'; 3_000], CR_LF.to_vec(), line[..LINE - 2].repeat(3), lines.clone()].concat();
+    let cut: Vec<_> = [1, 2, 139].map(|left| [&lines[..], &piece("A T12 5")[..left]].concat()).into();
+    let ended = [lines.clone(), CR_LF.to_vec(), lines.clone(), CR_LF.to_vec()].concat();
+    let foreign = with(&lines, LINE + 40..LINE + 41, b"\x7F");
+    let short: [&[u8]; 6] = [b"", b"\n", b"x", CR_LF, b"\n\n\r\n\n", &[LF; 990]];
+    let texts: Vec<_> =
+        short.map(<[u8]>::to_vec).into_iter().chain([line, lines, many, long, ended, foreign]).chain(cut).collect();
+    let rich = rich_table(random);
+    let mut damaged = rich.clone();
+    damaged[4] = 2;
+    let tables = [
+        ("the rich table", rich.clone()),
+        ("a table of 505 orders", stored(&random_day(MOST - 7, random), random)),
+        ("a full table", full_table(random)),
+        ("the empty table", stored(&Day::default(), random)),
+        ("a damaged table", damaged),
+        ("a table that is cut", rich[..TABLE - 1].to_vec()),
+        ("no table", vec![]),
+    ];
+    for (name, table) in tables {
+        hand.name(&format!("texts in one call into {name}"))?;
+        hand.take(table.clone())?;
+        for text in &texts {
+            for room in rooms(text) {
+                hand.book_all(room, text)?;
+                hand.restore(&table)?;
+            }
+            one_after_another(text, hand)?;
+            hand.restore(&table)?;
+        }
+    }
+    Ok(())
+}
+
+/// The first pieces of a text, each by itself.
+fn one_after_another(text: &[u8], hand: &mut Hand) -> Written {
+    text.split_inclusive(|byte| *byte == LF).take(20).try_for_each(|piece| hand.book(piece))
+}
+
 // Sheets.
 
 /// Buffers around the length of the sheet: of no order, a few, many single ones, long families.
@@ -261,6 +317,12 @@ fn bad_cases(random: &mut Random, hand: &mut Hand) -> Written {
     for length in [0, 1, 3, 5, 8] {
         hand.put(b'h', &vec![0; length])?;
     }
+    for room in [1_001, 1_024, 65_535] {
+        hand.put(b'a', &room_payload(room, b"A"))?;
+    }
+    for payload in [b"".as_slice(), b"\0", b"\0\0"] {
+        hand.put(b'a', payload)?;
+    }
     for room in [60_001, 65_536, 1 << 16 | 600, u32::MAX] {
         hand.sheet(room)?;
     }
@@ -281,6 +343,12 @@ fn traffic(day: Day, count: usize, random: &mut Random, hand: &mut Hand) -> Writ
             // All at once is another piece, or the same.
             hand.book(&[bytes.as_slice(), CR_LF].concat())?;
         }
+        if random.once_in(8) {
+            let more = random.below(AT_ONCE);
+            let text = [bytes, stream.by_ref().take(more).flatten().collect()].concat();
+            in_calls(&text, random, hand)?;
+            continue;
+        }
         for piece in bytes.split_inclusive(|byte| *byte == LF) {
             hand.book(piece)?;
         }
@@ -289,6 +357,18 @@ fn traffic(day: Day, count: usize, random: &mut Random, hand: &mut Hand) -> Writ
         }
     }
     hand.sheet(WIDEST_SHEET as u32)
+}
+
+/// Books a text in calls with room for any number of answers, each behind what the one before used.
+fn in_calls(text: &[u8], random: &mut Random, hand: &mut Hand) -> Written {
+    let mut pieces = text.split_inclusive(|byte| *byte == LF);
+    let mut rest = text;
+    while !rest.is_empty() {
+        let room = random.below(AT_ONCE);
+        hand.book_all(room as u16, rest)?;
+        rest = &rest[pieces.by_ref().take(room).map(<[u8]>::len).sum()..];
+    }
+    Ok(())
 }
 
 fn question(day: &Day, random: &mut Random, hand: &mut Hand) -> Written {
@@ -310,7 +390,7 @@ fn question(day: &Day, random: &mut Random, hand: &mut Hand) -> Written {
             let used = slot(day.orders().len()).start;
             hand.patch(random.below(used), &[random.any() as u8])?;
             hand.check()?;
-            hand.ask(random.below(6))?;
+            hand.ask(random.below(ENTRIES))?;
             hand.restore(&before)
         }
     }

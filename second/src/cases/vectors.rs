@@ -271,6 +271,7 @@ pub fn tables() -> Vec<Vector> {
         says("There is no fourth order", b'o', order_payload(3, 80), format!("order 80 refused 8 [{}]", ".".repeat(80))),
         says("79 bytes are too few", b'o', order_payload(3, 79), format!("order 79 refused 4 [{}]", ".".repeat(79))),
     ];
+    all.extend(texts_at_once());
     for (name, at, [other, before], words) in [
         ("512 orders, of which most are none", 0, [number(512), number(3)], damaged),
         ("513 orders", 0, [number(513), number(3)], damaged),
@@ -299,12 +300,30 @@ pub fn tables() -> Vec<Vector> {
         says("and an order", b'o', order_payload(1, 4), "order 4 refused 5 [....]"),
         sums("and a sheet", b'h', sheet(0), "sheet 0 refused 5 left 7", " []"),
         sums("and any piece", b'b', vec![], "book refused 5", ""),
+        sums("and any text, before anything", b'a', room_payload(2, &capture(WHOLE_CASE)), "all 2 refused 5 left 7 8", " [ 99999 99999]"),
         says("A table of 8 bytes", b't', vec![0; 8], "table 8 sum 524289"),
         says("is too short to be made empty", b'e', vec![], "empty refused 4 sum 524289"),
         says("and damaged", b'd', vec![], damaged),
         says("A patch past the end is a bad case", b'p', patch_payload(5, &[0; 4]), "bad case"),
     ]);
     all
+}
+
+/// Texts in one call into the table of the whole case, whose day is over: 6, but an unlawful piece is still 1, 2 or 3.
+#[rustfmt::skip]
+fn texts_at_once() -> Vec<Vector> {
+    let mixed = [&piece("A T3 5")[..], b"\r\n", b"x\n", &piece("A T3 0"), b"\n"].concat();
+    let at_once = |name, room, text: &[u8], said, answers: &str| sums(name, b'a', room_payload(room, text), said, answers);
+    vec![
+        at_once("A text of five pieces in one call", 5, &mixed, "all 5 done 285 5", " [ 6 6 1 3843 1]"),
+        at_once("More room than pieces: the rest stays", 7, &mixed, "all 7 done 285 5", " [ 6 6 1 3843 1 99999 99999]"),
+        at_once("Room for two: the first two pieces", 2, &mixed, "all 2 done 142 2", " [ 6 6]"),
+        at_once("A last piece that is cut", 3, b"x\nA", "all 3 done 3 2", " [ 1 1 99999]"),
+        at_once("No room: nothing is used", 0, &mixed, "all 0 done 0 0", " []"),
+        at_once("No text: nothing is used", 1, b"", "all 1 done 0 0", " [ 99999]"),
+        says("Room for 1,001 answers is a bad case", b'a', room_payload(1_001, b""), "bad case"),
+        says("Room of one byte is a bad case", b'a', vec![0], "bad case"),
+    ]
 }
 
 /// What a reader gives as the piece with a number, counted from 0.

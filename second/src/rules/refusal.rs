@@ -36,6 +36,12 @@ impl Refusal {
             Refusal::FullTable => 12,
         }
     }
+
+    /// The number and the field in one, as a list of answers holds them.
+    pub fn code(self) -> u32 {
+        let field = if let Refusal::Field(field) = self { field } else { 0 };
+        (self.number() + 256 * field) as u32
+    }
 }
 
 /// `refused R`, with ` field F` after a 3: the words of the trial and of the sheet program alike.

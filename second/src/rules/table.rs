@@ -5,7 +5,7 @@ use std::ops::Range;
 
 use crate::rules::day::{Day, Figures, Key, Order, Series, MOST};
 use crate::rules::fields::{
-    places, BODY, DATE, DENOMINATOR, FIELDS, MONTH, PRICE, ROOT, SIDE, SOURCE, STRIKE, TOKEN, YEAR,
+    places, BODY, DATE, DENOMINATOR, FIELDS, LF, MONTH, PRICE, ROOT, SIDE, SOURCE, STRIKE, TOKEN, YEAR,
 };
 use crate::rules::record::Record;
 use crate::rules::refusal::Refusal;
@@ -68,6 +68,18 @@ pub fn book(table: &mut [u8], piece: &[u8]) -> Result<(), Refusal> {
     day.book(piece)?;
     store(&day, table);
     Ok(())
+}
+
+/// Books the pieces of a text one after another, up to its end or to the end of the answers: each answer is 0 or the
+/// refusal of its piece. Says how many bytes and pieces were used.
+pub fn book_all(table: &mut [u8], text: &[u8], answers: &mut [u32]) -> Result<(usize, usize), Refusal> {
+    load(table)?;
+    let mut used = (0, 0);
+    for (piece, answer) in text.split_inclusive(|byte| *byte == LF).zip(answers) {
+        *answer = book(table, piece).map_or_else(Refusal::code, |()| 0);
+        used = (used.0 + piece.len(), used.1 + 1);
+    }
+    Ok(used)
 }
 
 /// The place of the earliest order with a key. No order has a key of another length.

@@ -18,6 +18,8 @@ pub const LONGEST: usize = 65_536;
 /// The longest buffer that an `i`, `w` or `o` case may ask for, and the longest for a sheet.
 const WIDEST: usize = 300;
 pub const WIDEST_SHEET: usize = 60_000;
+/// The most answers that an `a` case may ask for.
+pub const MOST_ANSWERS: usize = 1_000;
 /// The longest table in hand.
 pub const LONGEST_TABLE: usize = 41_100;
 /// What a step of the sheet program may write.
@@ -29,6 +31,7 @@ const WRITTEN_BACK: [usize; 4] = [0, 139, 140, 152];
 const UNTOUCHED: u8 = b'.';
 const UNTOLD: u8 = 7;
 const LENT: [&str; 4] = ["7", "8", "9", "10"];
+const UNANSWERED: u32 = 99_999;
 
 /// Answers case after case until the input ends, or a case is too long.
 pub fn run(input: &mut impl Read, output: &mut impl Write) -> io::Result<()> {
@@ -87,6 +90,7 @@ impl Trial {
             b'l' => self.look_up(payload, out),
             b'o' => self.order(payload, out),
             b'b' => self.book(payload, out),
+            b'a' => self.book_all(payload, out),
             b'h' => self.sheet(payload, out),
             b'x' => next_piece(payload, out),
             b'y' => pieces(payload, out),
@@ -286,6 +290,23 @@ impl Trial {
     fn book(&mut self, piece: &[u8], out: &mut Vec<u8>) -> Option<()> {
         let outcome = outcome(table::book(&mut self.table, piece));
         say(out, &format!("book {outcome} sum {}\n", self.sum()));
+        Some(())
+    }
+
+    /// Books a text in one call, and shows every answer.
+    fn book_all(&mut self, payload: &[u8], out: &mut Vec<u8>) -> Option<()> {
+        let (room, text) = payload.split_first_chunk()?;
+        let room = usize::from(u16::from_le_bytes(*room));
+        if room > MOST_ANSWERS {
+            return None;
+        }
+        let mut answers = vec![UNANSWERED; room];
+        let outcome = match table::book_all(&mut self.table, text, &mut answers) {
+            Ok((bytes, pieces)) => format!("done {bytes} {pieces}"),
+            Err(refusal) => refused(refusal, 2),
+        };
+        let answers: String = answers.iter().map(|answer| format!(" {answer}")).collect();
+        say(out, &format!("all {room} {outcome} sum {} [{answers}]\n", self.sum()));
         Some(())
     }
 

@@ -20,8 +20,10 @@ use crate::tests::law::Law;
 /// The streams of the laws, and the pieces of each.
 const SEEDS: u64 = 8;
 const PIECES: usize = 300;
+/// What no answer is.
+const UNANSWERED: u32 = u32::MAX;
 
-pub fn laws() -> [Law; 17] {
+pub fn laws() -> [Law; 18] {
     [
         ("The sum is Adler-32", sums_are_adler),
         ("A slot's parts lie one behind another over 80 bytes", parts_lie_in_a_row),
@@ -29,6 +31,7 @@ pub fn laws() -> [Law; 17] {
         ("A table that loads has one form", tables_have_one_form),
         ("A stream books the same into bytes as into the day", bytes_follow_the_day),
         ("A booking changes the header and two slots at most, a refusal nothing", bookings_change_little),
+        ("A text in one call is its pieces one after another, and may go on in the next", texts_are_their_pieces),
         ("Counts, the mark and the rest of the header", headers_are_judged),
         ("A stored text, code, date, year, strike or price is judged as on a line", fields_are_judged),
         ("Sizes, sums and broken, with numbers of 32 bits", figures_are_judged),
@@ -142,6 +145,35 @@ fn bookings_change_little() -> bool {
             Ok(()) => changed.len() <= 2 && changed.iter().all(|place| *place < count(after)),
             Err(_) => before == after,
         }
+    })
+}
+
+/// Random traffic in calls of any number of answers against each piece by itself.
+fn texts_are_their_pieces() -> bool {
+    (0..SEEDS).all(|seed| {
+        let mut random = Random::new(seed);
+        let day = random_day(40, &mut random);
+        let mut table = stored(&day, &mut random);
+        let mut other = table.clone();
+        let text: Vec<_> = Stream::on(day, seed, PIECES, 1_000).flatten().collect();
+        let alone: Vec<_> = text
+            .split_inclusive(|byte| *byte == LF)
+            .map(|piece| table::book(&mut table, piece).map_or_else(Refusal::code, |()| 0))
+            .collect();
+        let mut rest = text.as_slice();
+        let mut said = vec![];
+        while !rest.is_empty() {
+            let mut answers = vec![UNANSWERED; 1 + random.below(60)];
+            let Ok((bytes, pieces)) = table::book_all(&mut other, rest, &mut answers) else { return false };
+            if answers[pieces..].iter().any(|answer| *answer != UNANSWERED)
+                || pieces < answers.len() && bytes < rest.len()
+            {
+                return false;
+            }
+            said.extend_from_slice(&answers[..pieces]);
+            rest = &rest[bytes..];
+        }
+        said == alone && other == table
     })
 }
 
@@ -281,7 +313,11 @@ fn damaged_tables_refuse() -> bool {
     let damaged = Refusal::Damaged;
     let mut buffer = [0; 300];
     let pieces = [piece("E T3 1"), piece("A T1 5"), piece("end of day"), vec![]];
+    let mut answers = [UNANSWERED; 2];
     pieces.iter().all(|piece| table::book(&mut table, piece) == Err(damaged))
+        && table::book_all(&mut table, &pieces.concat(), &mut answers) == Err(damaged)
+        && table::book_all(&mut table, b"", &mut []) == Err(damaged)
+        && answers == [UNANSWERED; 2]
         && table == before
         && table::look_up(&table, &key("T1")) == Err(damaged)
         && table::look_up(&table, b"") == Err(damaged)
