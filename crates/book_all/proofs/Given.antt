@@ -6,13 +6,12 @@ use mathlib.Core.List.{List, [], _∷_}
 use lib.ListN.{length, getD, take, drop, List·getD-append}
 use lib.Seq.{sets}
 use Rattle.run.proofs.Stores.{sets-start}
-use Rattle.book.specs.Bytes.{bookBytes}
 use Rattle.book_all.specs.InTurn.{answersTo}
 
 -- one for each piece
 pub answers-long : (table : List ℕ) (ps : List (List ℕ)) → length (answersTo table ps) ≡ length ps
 answers-long table [] = refl
-answers-long table (p ∷ ps) = ap suc (answers-long (bookBytes table p) ps)
+answers-long table (p ∷ ps) = ap suc (answers-long _ ps)
 
 -- so many pieces at most
 pub first-few : (n : ℕ) (ps : List (List ℕ)) → length (take n ps) ≤ n
