@@ -1,13 +1,40 @@
 -- `row::put_names` meets its contract: two columns and an LF; the part of the Token that is lent is all but its padding.
-use Prim.Native.Nat.{_-_}
+use Prim.Native.Nat.{_+_, _-_}
+use mathlib.Core.Path.{_≡_}
 use native.Mathlib.Omega.{arith}
 use borrow.Author.Needs.{needs}
 use denote.Ref.{now}
-use lib.ListN.{length-take}
+use lib.ListN.{length, length-take}
+use Rattle.row.specs.Texts.{namesText}
 use Rattle.row.proofs.Puts.{names-put, names-length}
 use Rattle.row.proofs.Trimming.{trimmed-most}
 use Rattle.row.proofs.put_names.Statement.{statement}
 use Rattle.row.proofs.put_names.Tie as tie
+
+-- ---- the way back from each store to where the Token was measured
+
+abbrev start : tie.After-unpadded → tie.Start
+start c = c .before .before .before .before
+
+abbrev measured-1 : tie.After-store → tie.After-unpadded
+measured-1 c = c .before .before .before
+
+abbrev measured-2 : tie.After-store2 → tie.After-unpadded
+measured-2 c = measured-1 (c .before .before .before .before)
+
+abbrev measured-3 : tie.After-store3 → tie.After-unpadded
+measured-3 c = measured-2 (c .before .before .before .before .before)
+
+abbrev measured-4 : tie.After-store4 → tie.After-unpadded
+measured-4 c = measured-3 (c .before .before .before .before .before)
+
+abbrev measured-5 : tie.After-store5 → tie.After-unpadded
+measured-5 c = measured-4 (c .before .before .before .before .before)
+
+long : (c : tie.After-unpadded) → let a = start c .args in length (namesText (now (a .source)) (now (a .token))) ≡ 3 + length (now (a .source)) + c .unpadded .result
+long c = let a = start c .args in omega (arith, c .unpadded .ensures .0, names-length (now (a .source)) (now (a .token)))
+
+-- ---- the needs
 
 unpadded-requires : tie.Need-unpadded-requires
 unpadded-requires c κs = search needs
@@ -22,7 +49,7 @@ add-store : tie.Need-add-store
 add-store c = search needs
 
 store-requires-2 : tie.Need-store-requires-2
-store-requires-2 c κs = let a = c .before .before .before .before .before .before .before .before .before .before .args in omega (arith, names-length (now (a .source)) (now (a .token)))
+store-requires-2 c κs = omega (arith, long (measured-1 (c .before .before .before)))
 
 add-mid : tie.Need-add-mid
 add-mid c = search needs
@@ -34,7 +61,7 @@ slice-aggregate-store-2 : tie.Need-slice-aggregate-store-2
 slice-aggregate-store-2 c = search needs
 
 store-requires-3 : tie.Need-store-requires-3
-store-requires-3 c κs = let a = c .before .before .before .before .before .before .before .before .before .before .before .before .before .before .before .args in omega (arith, names-length (now (a .source)) (now (a .token)))
+store-requires-3 c κs = omega (arith, long (measured-2 (c .before .before .before .before)))
 
 add-store-2 : tie.Need-add-store-2
 add-store-2 c = search needs
@@ -46,56 +73,42 @@ part-store-start : tie.Need-part-store-start
 part-store-start c = search needs
 
 part-store-end : tie.Need-part-store-end
-part-store-end c =
-    let a = c .before .before .before .before .before .before .before .before .before .before .before .before .before .before .before .before .before .before .before .args in
-    let left = c .before .before .before .before .before .before .before .before .before .before .before .before .before .before .before .unpadded .ensures .0 in
-    search (needs, left, trimmed-most (now (a .token)))
+part-store-end c = let n = measured-3 (c .before .before .before) in search (needs, n .unpadded .ensures .0, trimmed-most (now (start n .args .token)))
 
 store-requires-4 : tie.Need-store-requires-4
-store-requires-4 c κs =
-    let a = c .before .before .before .before .before .before .before .before .before .before .before .before .before .before .before .before .before .before .before .before .args in
-    let n = c .before .before .before .before .before .before .before .before .before .before .before .before .before .before .before .before .unpadded in
-    omega (arith, n .ensures .0, names-length (now (a .source)) (now (a .token)), length-take (n .result - 0) (now (a .token)))
+store-requires-4 c κs = let n = measured-3 (c .before .before .before .before) in omega (arith, long n, length-take (n .unpadded .result - 0) (now (start n .args .token)))
 
 add-store-3 : tie.Need-add-store-3
 add-store-3 c = search needs
 
 add-store-4 : tie.Need-add-store-4
-add-store-4 c =
-    let a = c .before .before .before .before .before .before .before .before .before .before .before .before .before .before .before .before .before .before .before .before .before .before .before .before .args in
-    let left = c .before .before .before .before .before .before .before .before .before .before .before .before .before .before .before .before .before .before .before .before .unpadded .ensures .0 in
-    search (needs, left, names-length (now (a .source)) (now (a .token)))
+add-store-4 c = search (needs, long (measured-4 (c .before .before .before)))
 
 slice-aggregate-store-3 : tie.Need-slice-aggregate-store-3
 slice-aggregate-store-3 c = search needs
 
 store-requires-5 : tie.Need-store-requires-5
-store-requires-5 c κs =
-    let a = c .before .before .before .before .before .before .before .before .before .before .before .before .before .before .before .before .before .before .before .before .before .before .before .before .before .args in
-    let left = c .before .before .before .before .before .before .before .before .before .before .before .before .before .before .before .before .before .before .before .before .before .unpadded .ensures .0 in
-    omega (arith, left, names-length (now (a .source)) (now (a .token)))
+store-requires-5 c κs = omega (arith, long (measured-4 (c .before .before .before .before)))
 
 add-result : tie.Need-add-result
-add-result c =
-    let a = c .before .before .before .before .before .before .before .before .before .before .before .before .before .before .before .before .before .before .before .before .before .before .before .before .before .before .before .before .args in
-    let left = c .before .before .before .before .before .before .before .before .before .before .before .before .before .before .before .before .before .before .before .before .before .before .before .before .unpadded .ensures .0 in
-    search (needs, left, names-length (now (a .source)) (now (a .token)))
+add-result c = search (needs, long (measured-5 (c .before .before)))
 
 add-result-2 : tie.Need-add-result-2
-add-result-2 c =
-    let a = c .before .before .before .before .before .before .before .before .before .before .before .before .before .before .before .before .before .before .before .before .before .before .before .before .before .before .before .before .args in
-    let left = c .before .before .before .before .before .before .before .before .before .before .before .before .before .before .before .before .before .before .before .before .before .before .before .before .unpadded .ensures .0 in
-    search (needs, left, names-length (now (a .source)) (now (a .token)))
+add-result-2 c = search (needs, long (measured-5 (c .before .before)))
 
 same-length : tie.Need-same-length
 same-length c = search needs
 
 returns : tie.Need-returns
 returns c =
-    let a = c .before .before .before .before .before .before .before .before .before .before .before .before .before .before .before .before .before .before .before .before .before .before .before .before .before .before .before .before .args in
-    let n = c .before .before .before .before .before .before .before .before .before .before .before .before .before .before .before .before .before .before .before .before .before .before .before .before .unpadded in
-    names-put (now (a .source)) (now (a .token)) (now (a .out)) _ _ _ _ _ (a .at) (n .result) (n .ensures .0) (n .ensures .1)
-    (c .before .before .before .before .before .before .before .before .before .before .before .before .before .before .before .before .before .before .before .before .before .store .ensures) (c .before .before .before .before .before .before .before .before .before .before .before .before .before .before .before .before .before .store2 .ensures) (c .before .before .before .before .before .before .before .before .before .before .before .before .store3 .ensures) (c .before .before .before .before .before .before .before .store4 .ensures) (c .before .before .store5 .ensures)
+    let e = c .before .before in
+    let d = e .before .before .before .before .before in
+    let m = d .before .before .before .before .before in
+    let b = m .before .before .before .before .before in
+    let f = b .before .before .before .before in
+    let n = measured-1 f .unpadded in
+    let a = start (measured-1 f) .args in
+    names-put (now (a .source)) (now (a .token)) (now (a .out)) _ _ _ _ _ (a .at) (n .result) (n .ensures .0) (n .ensures .1) (f .store .ensures) (b .store2 .ensures) (m .store3 .ensures) (d .store4 .ensures) (e .store5 .ensures)
 
 pub put-names-spec : {M : Type 1} → statement M
 put-names-spec =
