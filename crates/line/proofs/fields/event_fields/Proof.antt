@@ -37,7 +37,7 @@ abbrev piece-2 : tie.After-enum-told2 → List ℕ
 piece-2 c = piece-1 (c .before .before .before .before .before)
 
 abbrev numbers-2 : tie.After-enum-told2 → Numbers → Numbers
-numbers-2 c n = withTimestamp n (timestampSaid (c .before .before .before .before .before .before .timestamp .given .0 .0))
+numbers-2 c n = numbers-1 (c .before .before .before .before .before) n
 
 past-2 : (c : tie.After-enum-told2) (n : Numbers) (x : Reading) → x ≡ readingFrom 2 (numbers-2 c n) (piece-2 c) → x ≡ readingFrom 0 n (piece-2 c)
 past-2 c n x e =
@@ -49,7 +49,7 @@ abbrev piece-3 : tie.After-enum-told4 → List ℕ
 piece-3 c = piece-2 (c .before .before .before .before)
 
 abbrev numbers-3 : tie.After-enum-told4 → Numbers → Numbers
-numbers-3 c n = withTimestamp n (timestampSaid (c .before .before .before .before .before .before .before .before .before .before .timestamp .given .0 .0))
+numbers-3 c n = numbers-2 (c .before .before .before .before) n
 
 past-3 : (c : tie.After-enum-told4) (n : Numbers) (x : Reading) → x ≡ readingFrom 3 (numbers-3 c n) (piece-3 c) → x ≡ readingFrom 0 n (piece-3 c)
 past-3 c n x e =
@@ -61,7 +61,7 @@ abbrev piece-4 : tie.After-enum-told6 → List ℕ
 piece-4 c = piece-3 (c .before .before .before .before .before)
 
 abbrev numbers-4 : tie.After-enum-told6 → Numbers → Numbers
-numbers-4 c n = withTimestamp n (timestampSaid (c .before .before .before .before .before .before .before .before .before .before .before .before .before .before .before .timestamp .given .0 .0))
+numbers-4 c n = numbers-3 (c .before .before .before .before .before) n
 
 past-4 : (c : tie.After-enum-told6) (n : Numbers) (x : Reading) → x ≡ readingFrom 4 (numbers-4 c n) (piece-4 c) → x ≡ readingFrom 0 n (piece-4 c)
 past-4 c n x e =
@@ -73,7 +73,7 @@ abbrev piece-5 : tie.After-enum-told8 → List ℕ
 piece-5 c = piece-4 (c .before .before .before .before .before)
 
 abbrev numbers-5 : tie.After-enum-told8 → Numbers → Numbers
-numbers-5 c n = withTimestamp n (timestampSaid (c .before .before .before .before .before .before .before .before .before .before .before .before .before .before .before .before .before .before .before .before .timestamp .given .0 .0))
+numbers-5 c n = numbers-4 (c .before .before .before .before .before) n
 
 past-5 : (c : tie.After-enum-told8) (n : Numbers) (x : Reading) → x ≡ readingFrom 5 (numbers-5 c n) (piece-5 c) → x ≡ readingFrom 0 n (piece-5 c)
 past-5 c n x e =
@@ -85,7 +85,7 @@ abbrev piece-6 : tie.After-enum-told10 → List ℕ
 piece-6 c = piece-5 (c .before .before .before .before .before .before)
 
 abbrev numbers-6 : tie.After-enum-told10 → Numbers → Numbers
-numbers-6 c n = withTimestamp n (timestampSaid (c .before .before .before .before .before .before .before .before .before .before .before .before .before .before .before .before .before .before .before .before .before .before .before .before .before .before .timestamp .given .0 .0))
+numbers-6 c n = numbers-5 (c .before .before .before .before .before .before) n
 
 past-6 : (c : tie.After-enum-told10) (n : Numbers) (x : Reading) → x ≡ readingFrom 6 (numbers-6 c n) (piece-6 c) → x ≡ readingFrom 0 n (piece-6 c)
 past-6 c n x e =
@@ -139,9 +139,10 @@ enum-told-3 c = search needs
 
 returns-2 : tie.Need-returns-2
 returns-2 c n =
-    let s = piece-1 (c .before .before .before .before .before) in
-    let m = numbers-1 (c .before .before .before .before .before) n in
-    past-1 (c .before .before .before .before .before) n _ (stops 1 m s _ (lit< tt) (code-bad types (part s 8 1) _ (c .before .before .code .ensures) (c .enum-told3 .given .1)) refl)
+    let p = c .before .before .before .before .before in
+    let s = piece-1 p in
+    let m = numbers-1 p n in
+    past-1 p n _ (stops 1 m s _ (lit< tt) (code-bad types (part s 8 1) _ (c .before .before .code .ensures) (c .enum-told3 .given .1)) refl)
 
 sub-text-in : tie.Need-sub-text-in
 sub-text-in c = search needs
@@ -163,9 +164,10 @@ enum-told-5 c = search needs
 
 returns-3 : tie.Need-returns-3
 returns-3 c n =
-    let s = piece-2 (c .before .before .before .before) in
-    let m = numbers-2 (c .before .before .before .before) n in
-    past-2 (c .before .before .before .before) n _ (stops 2 m s _ (lit< tt) (kind-bad text (part s 9 4) _ (c .before .before .text-in .ensures) (c .enum-told5 .given .1)) refl)
+    let p = c .before .before .before .before in
+    let s = piece-2 p in
+    let m = numbers-2 p n in
+    past-2 p n _ (stops 2 m s _ (lit< tt) (kind-bad text (part s 9 4) _ (c .before .before .text-in .ensures) (c .enum-told5 .given .1)) refl)
 
 sub-code-2 : tie.Need-sub-code-2
 sub-code-2 c = search needs
@@ -190,9 +192,10 @@ enum-told-7 c = search needs
 
 returns-4 : tie.Need-returns-4
 returns-4 c n =
-    let s = piece-3 (c .before .before .before .before .before) in
-    let m = numbers-3 (c .before .before .before .before .before) n in
-    past-3 (c .before .before .before .before .before) n _ (stops 3 m s _ (lit< tt) (code-bad capacities (part s 13 1) _ (c .before .before .code2 .ensures) (c .enum-told7 .given .1)) refl)
+    let p = c .before .before .before .before .before in
+    let s = piece-3 p in
+    let m = numbers-3 p n in
+    past-3 p n _ (stops 3 m s _ (lit< tt) (code-bad capacities (part s 13 1) _ (c .before .before .code2 .ensures) (c .enum-told7 .given .1)) refl)
 
 sub-code-3 : tie.Need-sub-code-3
 sub-code-3 c = search needs
@@ -217,9 +220,10 @@ enum-told-9 c = search needs
 
 returns-5 : tie.Need-returns-5
 returns-5 c n =
-    let s = piece-4 (c .before .before .before .before .before) in
-    let m = numbers-4 (c .before .before .before .before .before) n in
-    past-4 (c .before .before .before .before .before) n _ (stops 4 m s _ (lit< tt) (code-bad positions (part s 14 1) _ (c .before .before .code3 .ensures) (c .enum-told9 .given .1)) refl)
+    let p = c .before .before .before .before .before in
+    let s = piece-4 p in
+    let m = numbers-4 p n in
+    past-4 p n _ (stops 4 m s _ (lit< tt) (code-bad positions (part s 14 1) _ (c .before .before .code3 .ensures) (c .enum-told9 .given .1)) refl)
 
 sub-liquidity : tie.Need-sub-liquidity
 sub-liquidity c = search needs
@@ -247,9 +251,10 @@ enum-told-11 c = search needs
 
 returns-6 : tie.Need-returns-6
 returns-6 c n =
-    let s = piece-5 (c .before .before .before .before .before .before) in
-    let m = numbers-5 (c .before .before .before .before .before .before) n in
-    past-5 (c .before .before .before .before .before .before) n _ (stops 5 m s _ (lit< tt) (on-bad (isTrade (getD s 8 0)) (code liquidities) (part s 15 1) _ (c .before .before .liquidity .ensures ∙ ap (λ (t : Bool). bytesOn t (code liquidities) (part s 15 1)) (c .before .before .before .is-trade .ensures)) (c .enum-told11 .given .1)) refl)
+    let p = c .before .before .before .before .before .before in
+    let s = piece-5 p in
+    let m = numbers-5 p n in
+    past-5 p n _ (stops 5 m s _ (lit< tt) (on-bad (isTrade (getD s 8 0)) (code liquidities) (part s 15 1) _ (c .before .before .liquidity .ensures ∙ ap (λ (t : Bool). bytesOn t (code liquidities) (part s 15 1)) (c .before .before .before .is-trade .ensures)) (c .enum-told11 .given .1)) refl)
 
 no-numbers-requires : tie.Need-no-numbers-requires
 no-numbers-requires c κs = search needs

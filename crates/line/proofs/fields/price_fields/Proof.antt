@@ -32,7 +32,7 @@ abbrev piece-19 : tie.After-known-told2 → List ℕ
 piece-19 c = piece-18 (c .before .before .before .before .before)
 
 abbrev numbers-19 : tie.After-known-told2 → Numbers → Numbers
-numbers-19 c n = withSeries n (seriesSaid (c .before .before .before .before .before .before .date .given .0 .0) (c .before .year .given .0 .0) 0 0)
+numbers-19 c n = let d = c .before .before .before .before .before in withSeries n (seriesSaid (d .before .date .given .0 .0) (c .before .year .given .0 .0) 0 0)
 
 past-19 : (c : tie.After-known-told2) (n : Numbers) (x : Reading) → x ≡ readingFrom 19 (numbers-19 c n) (piece-19 c) → x ≡ readingFrom 17 n (piece-19 c)
 past-19 c n x e =
@@ -44,7 +44,7 @@ abbrev piece-20 : tie.After-enum-told3 → List ℕ
 piece-20 c = piece-19 (c .before .before .before .before .before)
 
 abbrev numbers-20 : tie.After-enum-told3 → Numbers → Numbers
-numbers-20 c n = withSeries n (seriesSaid (c .before .before .before .before .before .before .before .before .before .before .before .date .given .0 .0) (c .before .before .before .before .before .before .year .given .0 .0) 0 0)
+numbers-20 c n = numbers-19 (c .before .before .before .before .before) n
 
 past-20 : (c : tie.After-enum-told3) (n : Numbers) (x : Reading) → x ≡ readingFrom 20 (numbers-20 c n) (piece-20 c) → x ≡ readingFrom 17 n (piece-20 c)
 past-20 c n x e =
@@ -55,8 +55,12 @@ past-20 c n x e =
 abbrev piece-21 : tie.After-known-told3 → List ℕ
 piece-21 c = piece-20 (c .before .before .before .before .before .before .before)
 
+-- where the year was passed
+abbrev past-year : tie.After-known-told3 → tie.After-known-told2
+past-year c = c .before .before .before .before .before .before .before .before .before .before .before .before
+
 abbrev numbers-21 : tie.After-known-told3 → Numbers → Numbers
-numbers-21 c n = withSeries n (seriesSaid (c .before .before .before .before .before .before .before .before .before .before .before .before .before .before .before .before .before .before .date .given .0 .0) (c .before .before .before .before .before .before .before .before .before .before .before .before .before .year .given .0 .0) (c .before .strike .given .0 .0) 0)
+numbers-21 c n = let y = past-year c in let d = y .before .before .before .before .before in withSeries n (seriesSaid (d .before .date .given .0 .0) (y .before .year .given .0 .0) (c .before .strike .given .0 .0) 0)
 
 past-21 : (c : tie.After-known-told3) (n : Numbers) (x : Reading) → x ≡ readingFrom 21 (numbers-21 c n) (piece-21 c) → x ≡ readingFrom 17 n (piece-21 c)
 past-21 c n x e =
@@ -68,7 +72,7 @@ abbrev piece-22 : tie.After-known-told4 → List ℕ
 piece-22 c = piece-21 (c .before .before .before .before .before)
 
 abbrev numbers-22 : tie.After-known-told4 → Numbers → Numbers
-numbers-22 c n = withSeries n (seriesSaid (c .before .before .before .before .before .before .before .before .before .before .before .before .before .before .before .before .before .before .before .before .before .before .before .date .given .0 .0) (c .before .before .before .before .before .before .before .before .before .before .before .before .before .before .before .before .before .before .year .given .0 .0) (c .before .before .before .before .before .before .strike .given .0 .0) (c .before .price2 .given .0 .0))
+numbers-22 c n = let k = c .before .before .before .before .before in let y = past-year k in let d = y .before .before .before .before .before in withSeries n (seriesSaid (d .before .date .given .0 .0) (y .before .year .given .0 .0) (k .before .strike .given .0 .0) (c .before .price2 .given .0 .0))
 
 past-22 : (c : tie.After-known-told4) (n : Numbers) (x : Reading) → x ≡ readingFrom 22 (numbers-22 c n) (piece-22 c) → x ≡ readingFrom 17 n (piece-22 c)
 past-22 c n x e =
@@ -119,9 +123,10 @@ enum-told-2 c = search needs
 
 returns-2 : tie.Need-returns-2
 returns-2 c n =
-    let s = piece-18 (c .before .before .before .before) in
-    let m = numbers-18 (c .before .before .before .before) n in
-    past-18 (c .before .before .before .before) n _ (stops 18 m s _ (lit< tt) (value-bad (readDigits 0 99 (part s 101 2)) _ (c .before .before .exactly2 .ensures) (c .enum-told2 .given .1)) refl)
+    let p = c .before .before .before .before in
+    let s = piece-18 p in
+    let m = numbers-18 p n in
+    past-18 p n _ (stops 18 m s _ (lit< tt) (value-bad (readDigits 0 99 (part s 101 2)) _ (c .before .before .exactly2 .ensures) (c .enum-told2 .given .1)) refl)
 
 sub-code : tie.Need-sub-code
 sub-code c = search needs
@@ -146,9 +151,10 @@ enum-told-4 c = search needs
 
 returns-3 : tie.Need-returns-3
 returns-3 c n =
-    let s = piece-19 (c .before .before .before .before .before) in
-    let m = numbers-19 (c .before .before .before .before .before) n in
-    past-19 (c .before .before .before .before .before) n _ (stops 19 m s _ (lit< tt) (code-bad denominators (part s 103 1) _ (c .before .before .code .ensures) (c .enum-told4 .given .1)) refl)
+    let p = c .before .before .before .before .before in
+    let s = piece-19 p in
+    let m = numbers-19 p n in
+    past-19 p n _ (stops 19 m s _ (lit< tt) (code-bad denominators (part s 103 1) _ (c .before .before .code .ensures) (c .enum-told4 .given .1)) refl)
 
 sub-exactly-3 : tie.Need-sub-exactly-3
 sub-exactly-3 c = search needs
@@ -176,9 +182,10 @@ enum-told-5 c = search needs
 
 returns-4 : tie.Need-returns-4
 returns-4 c n =
-    let s = piece-20 (c .before .before .before .before .before .before) in
-    let m = numbers-20 (c .before .before .before .before .before .before) n in
-    past-20 (c .before .before .before .before .before .before) n _ (stops 20 m s _ (lit< tt) (value-bad (readDigits (leastStrike (getD s 103 0)) 999999 (part s 104 6)) _ (c .before .before .exactly3 .ensures ∙ ap (λ (d : ℕ). readDigits d 999999 (part s 104 6)) (c .before .before .before .least-strike .ensures)) (c .enum-told5 .given .1)) refl)
+    let p = c .before .before .before .before .before .before in
+    let s = piece-20 p in
+    let m = numbers-20 p n in
+    past-20 p n _ (stops 20 m s _ (lit< tt) (value-bad (readDigits (leastStrike (getD s 103 0)) 999999 (part s 104 6)) _ (c .before .before .exactly3 .ensures ∙ ap (λ (d : ℕ). readDigits d 999999 (part s 104 6)) (c .before .before .before .least-strike .ensures)) (c .enum-told5 .given .1)) refl)
 
 sub-price : tie.Need-sub-price
 sub-price c = search needs
@@ -200,9 +207,10 @@ enum-told-6 c = search needs
 
 returns-5 : tie.Need-returns-5
 returns-5 c n =
-    let s = piece-21 (c .before .before .before .before) in
-    let m = numbers-21 (c .before .before .before .before) n in
-    past-21 (c .before .before .before .before) n _ (stops 21 m s _ (lit< tt) (value-bad (readPrice (part s 110 10)) _ (c .before .before .price .ensures) (c .enum-told6 .given .1)) refl)
+    let p = c .before .before .before .before in
+    let s = piece-21 p in
+    let m = numbers-21 p n in
+    past-21 p n _ (stops 21 m s _ (lit< tt) (value-bad (readPrice (part s 110 10)) _ (c .before .before .price .ensures) (c .enum-told6 .given .1)) refl)
 
 no-numbers-requires : tie.Need-no-numbers-requires
 no-numbers-requires c κs = search needs
