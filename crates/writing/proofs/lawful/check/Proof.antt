@@ -13,6 +13,31 @@ use Rattle.writing.proofs.lawful.check.Tie as tie
 sized : (c : tie.Start) → Sized (c .args .r)
 sized c = search needs
 
+-- ---- where a field was judged, the start of the function
+
+abbrev at-2 : tie.Else1 → tie.Start
+at-2 c = c .before .before
+
+abbrev at-3 : tie.After-text → tie.Start
+at-3 c = at-2 (c .before .before .before)
+
+abbrev at-4 : tie.After-member → tie.Start
+at-4 c = at-3 (c .before .before .before .before)
+
+abbrev at-5 : tie.After-member2 → tie.Start
+at-5 c = at-4 (c .before .before .before)
+
+abbrev at-6 : tie.After-liquidity2 → tie.Start
+at-6 c = at-5 (c .before .before .before .before .before .before)
+
+firm-said : (c : tie.After-text) → c .text .result ≡ lawfulIf (lawfulAt (at-3 c .args .r) 2)
+firm-said c = c .text .ensures ∙ kind-is text 4 (at-3 c .args .r .firm) (sized (at-3 c) .firm)
+
+liquidity-said : (c : tie.After-liquidity2) → c .liquidity2 .result ≡ lawfulIf (lawfulAt (at-6 c .args .r) 5)
+liquidity-said c = c .liquidity2 .ensures ∙ rw (c .before .is-trade .ensures, c .before .before .type-of .ensures, c .before .before .before .before .trade-of .ensures) (liquidity-is (at-6 c .args .r))
+
+-- ---- the needs
+
 within-requires : tie.Need-within-requires
 within-requires c κs = search needs
 
@@ -21,10 +46,10 @@ returns c =
     let s = c .before .before in
     test-fails 0 (s .args .r) (lit< tt) (c .before .within .ensures) (c .if1 .taken)
 
-past-2 : (c : tie.Else1) → Past 0 2 (c .before .before .args .r)
+past-2 : (c : tie.Else1) → Past 0 2 (at-2 c .args .r)
 past-2 c =
-    let s = c .before .before in
-    judged 1 (s .args .r) (lit< tt) (type-lawful (s .args .r .event)) ∙ test-passes 0 (s .args .r) (lit< tt) (c .before .within .ensures) (c .if1 .left)
+    let r = at-2 c .args .r in
+    judged 1 r (lit< tt) (type-lawful (r .event)) ∙ test-passes 0 r (lit< tt) (c .before .within .ensures) (c .if1 .left)
 
 slice-aggregate-text : tie.Need-slice-aggregate-text
 slice-aggregate-text c = search needs
@@ -39,14 +64,10 @@ enum-told-2 : tie.Need-enum-told-2
 enum-told-2 c = search needs
 
 returns-2 : tie.Need-returns-2
-returns-2 c =
-    let s = c .before .before .before .before .before .before .before in
-    verbatim-fails 2 (s .args .r) (lit< tt) (c .before .before .text .ensures ∙ kind-is text 4 (s .args .r .firm) (sized s .firm)) (c .enum-told2 .given .1) ∙ past-2 (c .before .before .before .before .before)
+returns-2 c = let f = c .before .before in verbatim-fails 2 (at-3 f .args .r) (lit< tt) (firm-said f) (c .enum-told2 .given .1) ∙ past-2 (f .before .before .before)
 
-past-3 : (c : tie.After-enum-told) → Past 0 3 (c .before .before .before .before .before .before .before .args .r)
-past-3 c =
-    let s = c .before .before .before .before .before .before .before in
-    verbatim-passes 2 (s .args .r) (lit< tt) (c .before .before .text .ensures ∙ kind-is text 4 (s .args .r .firm) (sized s .firm)) (c .enum-told .given .1) ∙ past-2 (c .before .before .before .before .before)
+past-3 : (c : tie.After-enum-told) → Past 0 3 (at-3 (c .before .before) .args .r)
+past-3 c = let f = c .before .before in verbatim-passes 2 (at-3 f .args .r) (lit< tt) (firm-said f) (c .enum-told .given .1) ∙ past-2 (f .before .before .before)
 
 slice-aggregate-member : tie.Need-slice-aggregate-member
 slice-aggregate-member c = search needs
@@ -55,14 +76,10 @@ member-requires : tie.Need-member-requires
 member-requires c κs = search needs
 
 returns-3 : tie.Need-returns-3
-returns-3 c =
-    let s = c .before .before .before .before .before .before .before .before .before .before in
-    test-fails 3 (s .args .r) (lit< tt) (c .before .member .ensures) (c .if2 .taken) ∙ past-3 (c .before .before .before)
+returns-3 c = let f = c .before in test-fails 3 (at-4 f .args .r) (lit< tt) (f .member .ensures) (c .if2 .taken) ∙ past-3 (f .before .before)
 
-past-4 : (c : tie.Else2) → Past 0 4 (c .before .before .before .before .before .before .before .before .before .before .args .r)
-past-4 c =
-    let s = c .before .before .before .before .before .before .before .before .before .before in
-    test-passes 3 (s .args .r) (lit< tt) (c .before .member .ensures) (c .if2 .left) ∙ past-3 (c .before .before .before)
+past-4 : (c : tie.Else2) → Past 0 4 (at-4 (c .before) .args .r)
+past-4 c = let f = c .before in test-passes 3 (at-4 f .args .r) (lit< tt) (f .member .ensures) (c .if2 .left) ∙ past-3 (f .before .before)
 
 slice-aggregate-member-2 : tie.Need-slice-aggregate-member-2
 slice-aggregate-member-2 c = search needs
@@ -71,14 +88,10 @@ member-requires-2 : tie.Need-member-requires-2
 member-requires-2 c κs = search needs
 
 returns-4 : tie.Need-returns-4
-returns-4 c =
-    let s = c .before .before .before .before .before .before .before .before .before .before .before .before .before in
-    test-fails 4 (s .args .r) (lit< tt) (c .before .member2 .ensures) (c .if3 .taken) ∙ past-4 (c .before .before .before)
+returns-4 c = let f = c .before in test-fails 4 (at-5 f .args .r) (lit< tt) (f .member2 .ensures) (c .if3 .taken) ∙ past-4 (f .before .before)
 
-past-5 : (c : tie.Else3) → Past 0 5 (c .before .before .before .before .before .before .before .before .before .before .before .before .before .args .r)
-past-5 c =
-    let s = c .before .before .before .before .before .before .before .before .before .before .before .before .before in
-    test-passes 4 (s .args .r) (lit< tt) (c .before .member2 .ensures) (c .if3 .left) ∙ past-4 (c .before .before .before)
+past-5 : (c : tie.Else3) → Past 0 5 (at-5 (c .before) .args .r)
+past-5 c = let f = c .before in test-passes 4 (at-5 f .args .r) (lit< tt) (f .member2 .ensures) (c .if3 .left) ∙ past-4 (f .before .before)
 
 trade-of-requires : tie.Need-trade-of-requires
 trade-of-requires c κs = search needs
@@ -95,9 +108,6 @@ is-trade-requires c κs = search needs
 liquidity-requires : tie.Need-liquidity-requires
 liquidity-requires c κs = search needs
 
-liquidity-said : (c : tie.After-liquidity2) → c .liquidity2 .result ≡ lawfulIf (lawfulAt (c .before .before .before .before .before .before .before .before .before .before .before .before .before .before .before .before .before .before .args .r) 5)
-liquidity-said c = c .liquidity2 .ensures ∙ rw (c .before .is-trade .ensures, c .before .before .type-of .ensures, c .before .before .before .before .trade-of .ensures) (liquidity-is (c .before .before .before .before .before .before .before .before .before .before .before .before .before .before .before .before .before .before .args .r))
-
 enum-told-3 : tie.Need-enum-told-3
 enum-told-3 c = search needs
 
@@ -105,14 +115,10 @@ enum-told-4 : tie.Need-enum-told-4
 enum-told-4 c = search needs
 
 returns-5 : tie.Need-returns-5
-returns-5 c =
-    let s = c .before .before .before .before .before .before .before .before .before .before .before .before .before .before .before .before .before .before .before .before in
-    verbatim-fails 5 (s .args .r) (lit< tt) (liquidity-said (c .before .before)) (c .enum-told4 .given .1) ∙ past-5 (c .before .before .before .before .before .before .before)
+returns-5 c = let f = c .before .before in verbatim-fails 5 (at-6 f .args .r) (lit< tt) (liquidity-said f) (c .enum-told4 .given .1) ∙ past-5 (f .before .before .before .before .before)
 
-past-6 : (c : tie.After-enum-told3) → Past 0 6 (c .before .before .before .before .before .before .before .before .before .before .before .before .before .before .before .before .before .before .before .before .args .r)
-past-6 c =
-    let s = c .before .before .before .before .before .before .before .before .before .before .before .before .before .before .before .before .before .before .before .before in
-    verbatim-passes 5 (s .args .r) (lit< tt) (liquidity-said (c .before .before)) (c .enum-told3 .given .1) ∙ past-5 (c .before .before .before .before .before .before .before)
+past-6 : (c : tie.After-enum-told3) → Past 0 6 (at-6 (c .before .before) .args .r)
+past-6 c = let f = c .before .before in verbatim-passes 5 (at-6 f .args .r) (lit< tt) (liquidity-said f) (c .enum-told3 .given .1) ∙ past-5 (f .before .before .before .before .before)
 
 account-fields-requires : tie.Need-account-fields-requires
 account-fields-requires c κs = search needs

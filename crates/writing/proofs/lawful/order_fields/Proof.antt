@@ -1,15 +1,41 @@
 -- `writing::lawful::order_fields` meets its contract. past-N: where field N is passed, the group's fields up to it are lawful.
-use mathlib.Core.Path.{_∙_}
+use mathlib.Core.Path.{_≡_, _∙_}
 use borrow.Author.Needs.{needs}
 use lib.Dec.{lit<}
+use Rattle.field.specs.Verbatim.{lawfulIf}
 use Rattle.message.specs.Rule.{text, hex}
 use Rattle.writing.proofs.Checks.{Past, test-passes, test-fails, verbatim-passes, verbatim-fails, kind-is}
-use Rattle.writing.proofs.Fields.{Sized}
+use Rattle.writing.proofs.Fields.{Sized, lawfulAt}
 use Rattle.writing.proofs.lawful.order_fields.Statement.{statement}
 use Rattle.writing.proofs.lawful.order_fields.Tie as tie
 
 sized : (c : tie.Start) → Sized (c .args .r)
 sized c = search needs
+
+-- ---- where a field was judged, the start of the function
+
+abbrev at-13 : tie.After-hex → tie.Start
+at-13 c = c .before .before .before
+
+abbrev at-14 : tie.After-member → tie.Start
+at-14 c = at-13 (c .before .before .before .before)
+
+abbrev at-15 : tie.After-within → tie.Start
+at-15 c = at-14 (c .before .before)
+
+abbrev at-16 : tie.After-text → tie.Start
+at-16 c = at-15 (c .before .before .before .before)
+
+abbrev at-17 : tie.After-member2 → tie.Start
+at-17 c = at-16 (c .before .before .before .before)
+
+reference-said : (c : tie.After-hex) → c .hex .result ≡ lawfulIf (lawfulAt (at-13 c .args .r) 12)
+reference-said c = c .hex .ensures ∙ kind-is hex 9 (at-13 c .args .r .reference) (sized (at-13 c) .reference)
+
+root-said : (c : tie.After-text) → c .text .result ≡ lawfulIf (lawfulAt (at-16 c .args .r) 15)
+root-said c = c .text .ensures ∙ kind-is text 6 (at-16 c .args .r .root) (sized (at-16 c) .root)
+
+-- ---- the needs
 
 slice-aggregate-hex : tie.Need-slice-aggregate-hex
 slice-aggregate-hex c = search needs
@@ -24,14 +50,10 @@ enum-told-2 : tie.Need-enum-told-2
 enum-told-2 c = search needs
 
 returns : tie.Need-returns
-returns c =
-    let s = c .before .before .before .before .before in
-    verbatim-fails 12 (s .args .r) (lit< tt) (c .before .before .hex .ensures ∙ kind-is hex 9 (s .args .r .reference) (sized s .reference)) (c .enum-told2 .given .1)
+returns c = let f = c .before .before in verbatim-fails 12 (at-13 f .args .r) (lit< tt) (reference-said f) (c .enum-told2 .given .1)
 
-past-13 : (c : tie.After-enum-told) → Past 12 13 (c .before .before .before .before .before .args .r)
-past-13 c =
-    let s = c .before .before .before .before .before in
-    verbatim-passes 12 (s .args .r) (lit< tt) (c .before .before .hex .ensures ∙ kind-is hex 9 (s .args .r .reference) (sized s .reference)) (c .enum-told .given .1)
+past-13 : (c : tie.After-enum-told) → Past 12 13 (at-13 (c .before .before) .args .r)
+past-13 c = let f = c .before .before in verbatim-passes 12 (at-13 f .args .r) (lit< tt) (reference-said f) (c .enum-told .given .1)
 
 slice-aggregate-member : tie.Need-slice-aggregate-member
 slice-aggregate-member c = search needs
@@ -40,27 +62,19 @@ member-requires : tie.Need-member-requires
 member-requires c κs = search needs
 
 returns-2 : tie.Need-returns-2
-returns-2 c =
-    let s = c .before .before .before .before .before .before .before .before in
-    test-fails 13 (s .args .r) (lit< tt) (c .before .member .ensures) (c .if1 .taken) ∙ past-13 (c .before .before .before)
+returns-2 c = let f = c .before in test-fails 13 (at-14 f .args .r) (lit< tt) (f .member .ensures) (c .if1 .taken) ∙ past-13 (f .before .before)
 
-past-14 : (c : tie.Else1) → Past 12 14 (c .before .before .before .before .before .before .before .before .args .r)
-past-14 c =
-    let s = c .before .before .before .before .before .before .before .before in
-    test-passes 13 (s .args .r) (lit< tt) (c .before .member .ensures) (c .if1 .left) ∙ past-13 (c .before .before .before)
+past-14 : (c : tie.Else1) → Past 12 14 (at-14 (c .before) .args .r)
+past-14 c = let f = c .before in test-passes 13 (at-14 f .args .r) (lit< tt) (f .member .ensures) (c .if1 .left) ∙ past-13 (f .before .before)
 
 within-requires : tie.Need-within-requires
 within-requires c κs = search needs
 
 returns-3 : tie.Need-returns-3
-returns-3 c =
-    let s = c .before .before .before .before .before .before .before .before .before .before in
-    test-fails 14 (s .args .r) (lit< tt) (c .before .within .ensures) (c .if2 .taken) ∙ past-14 (c .before .before)
+returns-3 c = let f = c .before in test-fails 14 (at-15 f .args .r) (lit< tt) (f .within .ensures) (c .if2 .taken) ∙ past-14 (f .before)
 
-past-15 : (c : tie.Else2) → Past 12 15 (c .before .before .before .before .before .before .before .before .before .before .args .r)
-past-15 c =
-    let s = c .before .before .before .before .before .before .before .before .before .before in
-    test-passes 14 (s .args .r) (lit< tt) (c .before .within .ensures) (c .if2 .left) ∙ past-14 (c .before .before)
+past-15 : (c : tie.Else2) → Past 12 15 (at-15 (c .before) .args .r)
+past-15 c = let f = c .before in test-passes 14 (at-15 f .args .r) (lit< tt) (f .within .ensures) (c .if2 .left) ∙ past-14 (f .before)
 
 slice-aggregate-text : tie.Need-slice-aggregate-text
 slice-aggregate-text c = search needs
@@ -75,14 +89,10 @@ enum-told-4 : tie.Need-enum-told-4
 enum-told-4 c = search needs
 
 returns-4 : tie.Need-returns-4
-returns-4 c =
-    let s = c .before .before .before .before .before .before .before .before .before .before .before .before .before .before .before in
-    verbatim-fails 15 (s .args .r) (lit< tt) (c .before .before .text .ensures ∙ kind-is text 6 (s .args .r .root) (sized s .root)) (c .enum-told4 .given .1) ∙ past-15 (c .before .before .before .before .before)
+returns-4 c = let f = c .before .before in verbatim-fails 15 (at-16 f .args .r) (lit< tt) (root-said f) (c .enum-told4 .given .1) ∙ past-15 (f .before .before .before)
 
-past-16 : (c : tie.After-enum-told3) → Past 12 16 (c .before .before .before .before .before .before .before .before .before .before .before .before .before .before .before .args .r)
-past-16 c =
-    let s = c .before .before .before .before .before .before .before .before .before .before .before .before .before .before .before in
-    verbatim-passes 15 (s .args .r) (lit< tt) (c .before .before .text .ensures ∙ kind-is text 6 (s .args .r .root) (sized s .root)) (c .enum-told3 .given .1) ∙ past-15 (c .before .before .before .before .before)
+past-16 : (c : tie.After-enum-told3) → Past 12 16 (at-16 (c .before .before) .args .r)
+past-16 c = let f = c .before .before in verbatim-passes 15 (at-16 f .args .r) (lit< tt) (root-said f) (c .enum-told3 .given .1) ∙ past-15 (f .before .before .before)
 
 slice-aggregate-member-2 : tie.Need-slice-aggregate-member-2
 slice-aggregate-member-2 c = search needs
@@ -91,14 +101,10 @@ member-requires-2 : tie.Need-member-requires-2
 member-requires-2 c κs = search needs
 
 returns-5 : tie.Need-returns-5
-returns-5 c =
-    let s = c .before .before .before .before .before .before .before .before .before .before .before .before .before .before .before .before .before .before in
-    test-fails 16 (s .args .r) (lit< tt) (c .before .member2 .ensures) (c .if3 .taken) ∙ past-16 (c .before .before .before)
+returns-5 c = let f = c .before in test-fails 16 (at-17 f .args .r) (lit< tt) (f .member2 .ensures) (c .if3 .taken) ∙ past-16 (f .before .before)
 
-past-17 : (c : tie.Else3) → Past 12 17 (c .before .before .before .before .before .before .before .before .before .before .before .before .before .before .before .before .before .before .args .r)
-past-17 c =
-    let s = c .before .before .before .before .before .before .before .before .before .before .before .before .before .before .before .before .before .before in
-    test-passes 16 (s .args .r) (lit< tt) (c .before .member2 .ensures) (c .if3 .left) ∙ past-16 (c .before .before .before)
+past-17 : (c : tie.Else3) → Past 12 17 (at-17 (c .before) .args .r)
+past-17 c = let f = c .before in test-passes 16 (at-17 f .args .r) (lit< tt) (f .member2 .ensures) (c .if3 .left) ∙ past-16 (f .before .before)
 
 price-fields-requires : tie.Need-price-fields-requires
 price-fields-requires c κs = search needs
