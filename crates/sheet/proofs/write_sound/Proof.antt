@@ -19,27 +19,35 @@ count-roots-requires c κs = slots-inside (now (c .before .before .before .args 
 length-requires : tie.Need-length-requires
 length-requires c κs = search needs
 
+-- where the heading was measured, seen from where the rows were
+abbrev heading : tie.After-rows-fit → tie.After-length
+heading c = c .before .before .before .before .before .before .before
+
+abbrev start : tie.After-length → tie.Start
+start c = c .before .before .before .before .before
+
 measured : (c : tie.After-length)
-    → Measured (now (c .before .before .before .before .before .args .t)) (c .before .before .count .result) (c .before .count-roots .result) (c .length .result)
+    → Measured (now (start c .args .t)) (c .before .before .count .result) (c .before .count-roots .result) (c .length .result)
 measured c =
     record {
-      good = c .before .before .before .before .before .pre;
+      good = start c .pre;
       count = c .before .before .count .ensures;
       roots = c .before .count-roots .ensures;
       long = c .length .ensures;
     }
 
 returns : tie.Need-returns
-returns c = no-heading (measured (c .before)) (now (c .before .before .before .before .before .before .args .out)) (c .if1 .taken)
+returns c = let l = c .before in no-heading (measured l) (now (start l .args .out)) (c .if1 .taken)
 
 slice-aggregate-note-all : tie.Need-slice-aggregate-note-all
 slice-aggregate-note-all c = search needs
 
 note-all-requires : tie.Need-note-all-requires
 note-all-requires c κs =
-    let m = measured (c .before .before) in
-    let s = now (c .before .before .before .before .before .before .before .args .t) in
-    let n = c .before .before .before .before .count .result in
+    let l = c .before .before in
+    let m = measured l in
+    let s = now (start l .args .t) in
+    let n = l .before .before .count .result in
     let few = sound-apart s (m .good) .bytes .few in
     let most = limit-most (length s) in
     let slots = slots-inside s n (m .good) (m .count) in
@@ -59,9 +67,11 @@ rows-fit-requires c κs = (c .before .before .before .note-all .ensures, c .befo
 
 returns-2 : tie.Need-returns-2
 returns-2 c =
-    let x = c .before .before .before .start in
-    let r = c .before .rows-fit in
-    no-rows (measured (c .before .before .before .before .before .before .before .before)) (now (c .before .before .before .before .before .before .before .before .before .before .before .before .before .args .out)) (x .result) (x .ensures .0) (c .before .before .before .before .before .before .before .if1 .left) (r .result) (r .ensures)
+    let f = c .before in
+    let l = heading f in
+    let x = f .before .before .start in
+    let r = f .rows-fit in
+    no-rows (measured l) (now (start l .args .out)) (x .result) (x .ensures .0) (f .before .before .before .before .before .before .if1 .left) (r .result) (r .ensures)
     (not-true (r .result) (c .if2 .taken))
 
 write-requires : tie.Need-write-requires
@@ -81,22 +91,31 @@ part-rows-end c = search needs
 
 rows-requires : tie.Need-rows-requires
 rows-requires c κs =
-    let x = c .before .before .before .before .before .before .before .before .before .start in
-    let r = c .before .before .before .before .before .before .before .rows-fit in
-    let room = rows-room (measured (c .before .before .before .before .before .before .before .before .before .before .before .before .before .before)) (now (c .before .before .before .before .before .before .before .before .before .before .before .before .before .before .before .before .before .before .before .args .out)) (x .result) (x .ensures .0) (c .before .before .before .before .before .before .before .before .before .before .before .before .before .if1 .left) (r .result) (r .ensures)
-    (not-false (r .result) (c .before .before .before .before .before .before .if2 .left)) (c .before .before .before .before .write .ensures) in
-    (c .before .before .before .before .before .before .before .before .before .before .before .note-all .ensures, (x .ensures .1, room))
+    let w = c .before .before .before .before in
+    let e = w .before .before in
+    let f = e .before in
+    let l = heading f in
+    let x = f .before .before .start in
+    let r = f .rows-fit in
+    let room = rows-room (measured l) (now (start l .args .out)) (x .result) (x .ensures .0) (f .before .before .before .before .before .before .if1 .left) (r .result) (r .ensures)
+    (not-false (r .result) (e .if2 .left)) (w .write .ensures) in
+    (f .before .before .before .before .note-all .ensures, (x .ensures .1, room))
 
 -- the heading and the rows behind it are the sheet
 sheet : tie.Need-returns-3
 sheet c =
-    let x = c .before .before .before .before .before .before .before .before .before .before .before .before .start in
-    let r = c .before .before .before .before .before .before .before .before .before .before .rows-fit in
-    sheet-written (measured (c .before .before .before .before .before .before .before .before .before .before .before .before .before .before .before .before .before)) (now (c .before .before .before .before .before .before .before .before .before .before .before .before .before .before .before .before .before .before .before .before .before .before .args .out)) (x .result) (x .ensures .0) (c .before .before .before .before .before .before .before .before .before .before .before .before .before .before .before .before .if1 .left) (r .result) (r .ensures)
-    (not-false (r .result) (c .before .before .before .before .before .before .before .before .before .if2 .left)) (c .before .before .before .before .before .before .before .write .ensures) (c .before .before .rows .ensures)
+    let d = c .before .before in
+    let w = d .before .before .before .before .before in
+    let e = w .before .before in
+    let f = e .before in
+    let l = heading f in
+    let x = f .before .before .start in
+    let r = f .rows-fit in
+    sheet-written (measured l) (now (start l .args .out)) (x .result) (x .ensures .0) (f .before .before .before .before .before .before .if1 .left) (r .result) (r .ensures)
+    (not-false (r .result) (e .if2 .left)) (w .write .ensures) (d .rows .ensures)
 
 add-t19 : tie.Need-add-t19
-add-t19 c = omega (arith, written-inside (sheet c), c .before .before .before .before .before .before .before .before .before .before .before .before .before .before .before .before .before .before .before .before .before .before .good .1 .0 .0)
+add-t19 c = omega (arith, written-inside (sheet c), start (heading (c .before .before .before .before .before .before .before .before .before .before)) .good .1 .0 .0)
 
 same-length : tie.Need-same-length
 same-length c = written-kept (sheet c)

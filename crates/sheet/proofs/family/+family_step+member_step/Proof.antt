@@ -90,12 +90,25 @@ family-step-same-length t c = c .before .before .member-step .kept .1 .1 .1 .1 .
 
 family-step-returns-2 : (t : ℕ) → family-step-lts.Need-returns-2 (family-calls t) (family-step-at t) family-step.Post
 family-step-returns-2 t c =
-    let a = c .before .before .before .before .before .before .before .before .before .args in
+    let d = c .before .before in
+    let e = d .before .before in
+    let a = e .before .before .before .before .before .args in
     let es = eldersIn (a .n) (now (a .t)) in
     let long = length-elders-in (a .n) (now (a .t)) in
-    let q = c .before .before .before .before .before .seek in
-    let h = c .before .before .before .before .if1 .left in
-    rw (family-members es (a .n) long (a .family) (a .from) (q .result) (q .ensures) h) at (c .before .before .member-step .ensures)
+    let q = e .before .seek in
+    let h = e .if1 .left in
+    rw (family-members es (a .n) long (a .family) (a .from) (q .result) (q .ensures) h) at (d .member-step .ensures)
+
+-- ---- the way back from where the younger order was looked up, and from where the row was written
+
+abbrev wrote : (t : ℕ) → member-step-lts.After-younger (member-calls t) (member-step-at t) member-step.Post → member-step-lts.After-write (member-calls t) (member-step-at t) member-step.Post
+wrote t c = c .before .before .before
+
+abbrev began : (t : ℕ) → member-step-lts.After-write (member-calls t) (member-step-at t) member-step.Post → member-step-lts.Start (member-calls t) (member-step-at t) member-step.Post
+began t c = c .before .before .before .before .before .before
+
+some-wanted : (t : ℕ) (c : member-step-lts.After-write (member-calls t) (member-step-at t) member-step.Post) → 0 < began t c .args .most
+some-wanted t c = omega (arith, c .before .before .if1 .left)
 
 member-step-returns : (t : ℕ) → member-step-lts.Need-returns (member-calls t) (member-step-at t) member-step.Post
 member-step-returns t c =
@@ -112,68 +125,71 @@ member-step-write-requires t c κs =
 
 member-step-younger-requires : (t : ℕ) → member-step-lts.Need-younger-requires (member-calls t) (member-step-at t) member-step.Post
 member-step-younger-requires t c κs =
-    let m = c .before .before .before .before .before .before .before .before in
+    let m = began t (c .before .before) in
     omega (arith, m .pre .1 .0 .long, m .pre .1 .1 .0)
 
 member-step-add-t17 : (t : ℕ) → member-step-lts.Need-add-t17 (member-calls t) (member-step-at t) member-step.Post
 member-step-add-t17 t c =
-    let m = c .before .before .before .before .before .before .before .before .before .before .before in
+    let m = began t (wrote t (c .before .before)) in
     omega (arith, m .pre .1, m .good .0)
 
 member-step-sub-member-step : (t : ℕ) → member-step-lts.Need-sub-member-step (member-calls t) (member-step-at t) member-step.Post
-member-step-sub-member-step t c = omega (arith, c .before .before .before .before .before .before .before .if1 .left)
+member-step-sub-member-step t c = some-wanted t (c .before .before .before .before .before)
 
 member-step-sub-member-step-2 : (t : ℕ) → member-step-lts.Need-sub-member-step-2 (member-calls t) (member-step-at t) member-step.Post
 member-step-sub-member-step-2 t c =
-    let m = c .before .before .before .before .before .before .before .before .before .before .before in
+    let w = c .before .before .before .before .before in
+    let m = began t w in
     let a = m .args in
-    let h : 0 < a .most = omega (arith, c .before .before .before .before .before .before .before .if1 .left) in
-    row-inside (a .n) (now (a .t)) (a .x) (a .most) (now (a .out)) (m .pre .1 .1 .0) h (m .pre .1 .1 .1) (c .before .before .before .before .before .write .ensures)
+    row-inside (a .n) (now (a .t)) (a .x) (a .most) (now (a .out)) (m .pre .1 .1 .0) (some-wanted t w) (m .pre .1 .1 .1) (w .write .ensures)
 
 member-step-part-member-step-start : (t : ℕ) → member-step-lts.Need-part-member-step-start (member-calls t) (member-step-at t) member-step.Post
 member-step-part-member-step-start t c =
-    let m = c .before .before .before .before .before .before .before .before .before .before .before in
+    let w = c .before .before .before .before .before in
+    let m = began t w in
     let a = m .args in
-    let h : 0 < a .most = omega (arith, c .before .before .before .before .before .before .before .if1 .left) in
-    row-inside (a .n) (now (a .t)) (a .x) (a .most) (now (a .out)) (m .pre .1 .1 .0) h (m .pre .1 .1 .1) (c .before .before .before .before .before .write .ensures)
+    row-inside (a .n) (now (a .t)) (a .x) (a .most) (now (a .out)) (m .pre .1 .1 .0) (some-wanted t w) (m .pre .1 .1 .1) (w .write .ensures)
 
 member-step-part-member-step-end : (t : ℕ) → member-step-lts.Need-part-member-step-end (member-calls t) (member-step-at t) member-step.Post
 member-step-part-member-step-end t c = search needs
 
 member-step-member-step-requires : (t : ℕ) → member-step-lts.Need-member-step-requires (member-calls t) (member-step-at t) member-step.Post
 member-step-member-step-requires t c κs =
-    let m = c .before .before .before .before .before .before .before .before .before .before .before .before in
+    let g = c .before .before in
+    let w = wrote t (g .before) in
+    let m = began t w in
     let a = m .args in
     let es = eldersIn (a .n) (now (a .t)) in
     let long = length-elders-in (a .n) (now (a .t)) in
-    let y = c .before .before .before .younger in
+    let y = g .before .younger in
     let q = is-younger (m .pre .1 .0) (m .pre .1 .1 .0 .inside) (y .ensures) in
-    let h = c .before .before .if2 .taken in
-    let some : 0 < a .most = omega (arith, c .before .before .before .before .before .before .before .before .if1 .left) in
+    let h = g .if2 .taken in
     let rows = younger-members es (a .n) long (a .x) (y .result) q h in
     let stands = younger-stands es (a .n) long (a .x) (y .result) q (m .pre .1 .1 .0) h in
-    let room = text-room (a .n) (now (a .t)) (a .x) (a .most) (now (a .out)) (m .pre .1 .1 .0) some (m .pre .1 .1 .1) (c .before .before .before .before .before .before .write .ensures)
+    let room = text-room (a .n) (now (a .t)) (a .x) (a .most) (now (a .out)) (m .pre .1 .1 .0) (some-wanted t w) (m .pre .1 .1 .1) (w .write .ensures)
     (membersFrom es (turn (a .x .root) (y .result) (a .x .family) (a .x .rank + 1))) rows in
     (omega (arith, ap length rows, m .pre .0), (m .pre .1 .0, (stands, room)))
 
 -- the row and the stretch behind it are the whole stretch
 younger-written : (t : ℕ) → member-step-lts.Need-returns-2 (member-calls t) (member-step-at t) member-step.Post
 younger-written t c =
-    let m = c .before .before .before .before .before .before .before .before .before .before .before .before .before .before .before .before .before in
+    let d = c .before .before .before .before in
+    let g = d .before .before .before in
+    let w = wrote t (g .before) in
+    let m = began t w in
     let a = m .args in
     let es = eldersIn (a .n) (now (a .t)) in
     let long = length-elders-in (a .n) (now (a .t)) in
-    let y = c .before .before .before .before .before .before .before .before .younger in
+    let y = g .before .younger in
     let q = is-younger (m .pre .1 .0) (m .pre .1 .1 .0 .inside) (y .ensures) in
-    let h = c .before .before .before .before .before .before .before .if2 .taken in
-    let some : 0 < a .most = omega (arith, c .before .before .before .before .before .before .before .before .before .before .before .before .before .if1 .left) in
+    let h = g .if2 .taken in
     let rows = younger-members es (a .n) long (a .x) (y .result) q h in
-    went-on (a .n) (now (a .t)) (a .x) (a .most) (now (a .out)) (m .pre .1 .1 .0) some (m .pre .1 .1 .1) (c .before .before .before .before .before .before .before .before .before .before .before .write .ensures)
-    (membersFrom es (turn (a .x .root) (y .result) (a .x .family) (a .x .rank + 1))) rows (c .before .before .before .before .member-step .ensures)
+    went-on (a .n) (now (a .t)) (a .x) (a .most) (now (a .out)) (m .pre .1 .1 .0) (some-wanted t w) (m .pre .1 .1 .1) (w .write .ensures)
+    (membersFrom es (turn (a .x .root) (y .result) (a .x .family) (a .x .rank + 1))) rows (d .member-step .ensures)
 
 member-step-add-t18 : (t : ℕ) → member-step-lts.Need-add-t18 (member-calls t) (member-step-at t) member-step.Post
 member-step-add-t18 t c =
-    let m = c .before .before .before .before .before .before .before .before .before .before .before .before .before .before .before .before .before in
+    let m = began t (wrote t (c .before .before .before .before .before .before .before .before)) in
     omega (arith, younger-written t c .text .long, m .pre .1 .1 .1, m .good .1 .1 .1 .1 .1 .0 .0)
 
 member-step-same-length : (t : ℕ) → member-step-lts.Need-same-length (member-calls t) (member-step-at t) member-step.Post
@@ -184,67 +200,70 @@ member-step-returns-2 t c = younger-written t c
 
 member-step-add-family-step : (t : ℕ) → member-step-lts.Need-add-family-step (member-calls t) (member-step-at t) member-step.Post
 member-step-add-family-step t c =
-    let m = c .before .before .before .before .before .before .before .before .before .before .before in
+    let m = began t (wrote t (c .before .before)) in
     omega (arith, m .pre .1, m .good .0)
 
 member-step-add-family-step-2 : (t : ℕ) → member-step-lts.Need-add-family-step-2 (member-calls t) (member-step-at t) member-step.Post
 member-step-add-family-step-2 t c =
-    let m = c .before .before .before .before .before .before .before .before .before .before .before .before in
+    let m = began t (wrote t (c .before .before .before)) in
     omega (arith, m .pre .1, m .good .0)
 
 member-step-sub-family-step : (t : ℕ) → member-step-lts.Need-sub-family-step (member-calls t) (member-step-at t) member-step.Post
-member-step-sub-family-step t c = omega (arith, c .before .before .before .before .before .before .before .before .if1 .left)
+member-step-sub-family-step t c = some-wanted t (c .before .before .before .before .before .before)
 
 member-step-sub-family-step-2 : (t : ℕ) → member-step-lts.Need-sub-family-step-2 (member-calls t) (member-step-at t) member-step.Post
 member-step-sub-family-step-2 t c =
-    let m = c .before .before .before .before .before .before .before .before .before .before .before .before in
+    let w = c .before .before .before .before .before .before in
+    let m = began t w in
     let a = m .args in
-    let h : 0 < a .most = omega (arith, c .before .before .before .before .before .before .before .before .if1 .left) in
-    row-inside (a .n) (now (a .t)) (a .x) (a .most) (now (a .out)) (m .pre .1 .1 .0) h (m .pre .1 .1 .1) (c .before .before .before .before .before .before .write .ensures)
+    row-inside (a .n) (now (a .t)) (a .x) (a .most) (now (a .out)) (m .pre .1 .1 .0) (some-wanted t w) (m .pre .1 .1 .1) (w .write .ensures)
 
 member-step-part-family-step-start : (t : ℕ) → member-step-lts.Need-part-family-step-start (member-calls t) (member-step-at t) member-step.Post
 member-step-part-family-step-start t c =
-    let m = c .before .before .before .before .before .before .before .before .before .before .before .before in
+    let w = c .before .before .before .before .before .before in
+    let m = began t w in
     let a = m .args in
-    let h : 0 < a .most = omega (arith, c .before .before .before .before .before .before .before .before .if1 .left) in
-    row-inside (a .n) (now (a .t)) (a .x) (a .most) (now (a .out)) (m .pre .1 .1 .0) h (m .pre .1 .1 .1) (c .before .before .before .before .before .before .write .ensures)
+    row-inside (a .n) (now (a .t)) (a .x) (a .most) (now (a .out)) (m .pre .1 .1 .0) (some-wanted t w) (m .pre .1 .1 .1) (w .write .ensures)
 
 member-step-part-family-step-end : (t : ℕ) → member-step-lts.Need-part-family-step-end (member-calls t) (member-step-at t) member-step.Post
 member-step-part-family-step-end t c = search needs
 
 member-step-family-step-requires : (t : ℕ) → member-step-lts.Need-family-step-requires (member-calls t) (member-step-at t) member-step.Post
 member-step-family-step-requires t c κs =
-    let m = c .before .before .before .before .before .before .before .before .before .before .before .before .before in
+    let g = c .before .before .before in
+    let w = wrote t (g .before) in
+    let m = began t w in
     let a = m .args in
     let es = eldersIn (a .n) (now (a .t)) in
     let long = length-elders-in (a .n) (now (a .t)) in
-    let y = c .before .before .before .before .younger in
+    let y = g .before .younger in
     let q = is-younger (m .pre .1 .0) (m .pre .1 .1 .0 .inside) (y .ensures) in
-    let h = c .before .before .before .if2 .left in
-    let some : 0 < a .most = omega (arith, c .before .before .before .before .before .before .before .before .before .if1 .left) in
+    let h = g .if2 .left in
     let rows = last-members es (a .n) long (a .x) (y .result) q h in
-    let room = text-room (a .n) (now (a .t)) (a .x) (a .most) (now (a .out)) (m .pre .1 .1 .0) some (m .pre .1 .1 .1) (c .before .before .before .before .before .before .before .write .ensures)
+    let room = text-room (a .n) (now (a .t)) (a .x) (a .most) (now (a .out)) (m .pre .1 .1 .0) (some-wanted t w) (m .pre .1 .1 .1) (w .write .ensures)
     (familiesFrom es (a .x .root + 1) (a .x .family + 1)) rows in
     (omega (arith, ap length rows, m .pre .0), (m .pre .1 .0, (omega (arith, m .pre .1 .1 .0), (omega (arith, m .pre .1 .1 .0), room))))
 
 -- the row and the stretch behind it are the whole stretch
 last-written : (t : ℕ) → member-step-lts.Need-returns-3 (member-calls t) (member-step-at t) member-step.Post
 last-written t c =
-    let m = c .before .before .before .before .before .before .before .before .before .before .before .before .before .before .before .before .before .before in
+    let d = c .before .before .before .before in
+    let g = d .before .before .before .before in
+    let w = wrote t (g .before) in
+    let m = began t w in
     let a = m .args in
     let es = eldersIn (a .n) (now (a .t)) in
     let long = length-elders-in (a .n) (now (a .t)) in
-    let y = c .before .before .before .before .before .before .before .before .before .younger in
+    let y = g .before .younger in
     let q = is-younger (m .pre .1 .0) (m .pre .1 .1 .0 .inside) (y .ensures) in
-    let h = c .before .before .before .before .before .before .before .before .if2 .left in
-    let some : 0 < a .most = omega (arith, c .before .before .before .before .before .before .before .before .before .before .before .before .before .before .if1 .left) in
+    let h = g .if2 .left in
     let rows = last-members es (a .n) long (a .x) (y .result) q h in
-    went-on (a .n) (now (a .t)) (a .x) (a .most) (now (a .out)) (m .pre .1 .1 .0) some (m .pre .1 .1 .1) (c .before .before .before .before .before .before .before .before .before .before .before .before .write .ensures)
-    (familiesFrom es (a .x .root + 1) (a .x .family + 1)) rows (c .before .before .before .before .family-step .ensures)
+    went-on (a .n) (now (a .t)) (a .x) (a .most) (now (a .out)) (m .pre .1 .1 .0) (some-wanted t w) (m .pre .1 .1 .1) (w .write .ensures)
+    (familiesFrom es (a .x .root + 1) (a .x .family + 1)) rows (d .family-step .ensures)
 
 member-step-add-t23 : (t : ℕ) → member-step-lts.Need-add-t23 (member-calls t) (member-step-at t) member-step.Post
 member-step-add-t23 t c =
-    let m = c .before .before .before .before .before .before .before .before .before .before .before .before .before .before .before .before .before .before in
+    let m = began t (wrote t (c .before .before .before .before .before .before .before .before .before)) in
     omega (arith, last-written t c .text .long, m .pre .1 .1 .1, m .good .1 .1 .1 .1 .1 .0 .0)
 
 member-step-same-length-2 : (t : ℕ) → member-step-lts.Need-same-length-2 (member-calls t) (member-step-at t) member-step.Post
