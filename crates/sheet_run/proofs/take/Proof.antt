@@ -22,6 +22,15 @@ Inv-loop chunk t₀ heads₀ nexts₀ hold₀ held line out₀ used₀ kept₀ n
 abbrev μ-loop : tie.MeasureT-loop
 μ-loop chunk t₀ heads₀ nexts₀ hold₀ held line out₀ used₀ kept₀ number₀ t heads nexts hold out used kept number = length chunk - used
 
+-- the way back from a step: to the test of its turn, and from there to the start
+abbrev to-test : tie.After-step Inv-loop μ-loop → tie.In-loop Inv-loop μ-loop
+to-test c = c .before .before .before .before .before .before .before
+
+abbrev to-start : tie.In-loop Inv-loop μ-loop → tie.Start Inv-loop μ-loop
+to-start c = c .before .before .before .before .before .before .before .before
+
+-- ---- the needs
+
 loop-holds : tie.Need-loop-holds Inv-loop μ-loop
 loop-holds c =
     let start = c .before .before .before .before .before .before in
@@ -41,40 +50,53 @@ step-requires : tie.Need-step-requires Inv-loop μ-loop
 step-requires c κs = let inv = c .before .before .before .before .before .before .before .loop .inv in (inv .0 .good, (inv .1, (inv .0 .long, inv .0 .few)))
 
 say-requires : tie.Need-say-requires Inv-loop μ-loop
-say-requires c κs = one-step (c .before .before .before .before .before .before .before .before .before .before .before .before .before .before .before .before .before .before .before .loop .inv .0) (c .before .before .before .before .before .before .before .before .before .before .before .before .before .before .before .before .before .before .loop-test .taken) (c .before .before .before .before .before .before .before .before .before .before .before .before .before .before .before .before .before .before .before .before .before .before .before .before .before .before .pre .1 .1 .1 .1) (c .before .before .before .before .before .before .before .before .before .before .before .step .ensures .0) .wrote
+say-requires c κs =
+    let stepped = c .before .before .before .before .before .before .before .before .before .before .before in
+    let turn = to-test stepped in
+    one-step (turn .before .loop .inv .0) (turn .loop-test .taken) (to-start turn .pre .1 .1 .1 .1) (stepped .step .ensures .0) .wrote
 
 same-length : tie.Need-same-length Inv-loop μ-loop
-same-length c = c .before .before .before .before .before .before .before .before .before .before .before .before .before .step .kept .1 .0 ∙ c .before .before .before .before .before .before .before .before .before .before .before .before .before .before .before .before .before .before .before .before .before .loop .inv .0 .table
+same-length c = let stepped = c .before .before .before .before .before .before .before .before .before .before .before .before .before in stepped .step .kept .1 .0 ∙ to-test stepped .before .loop .inv .0 .table
 
 same-length-2 : tie.Need-same-length-2 Inv-loop μ-loop
-same-length-2 c = c .before .before .before .before .before .before .before .before .before .before .before .before .before .step .kept .1 .1 .0 ∙ c .before .before .before .before .before .before .before .before .before .before .before .before .before .before .before .before .before .before .before .before .before .loop .inv .2
+same-length-2 c = let stepped = c .before .before .before .before .before .before .before .before .before .before .before .before .before in stepped .step .kept .1 .1 .0 ∙ to-test stepped .before .loop .inv .2
 
 same-length-3 : tie.Need-same-length-3 Inv-loop μ-loop
-same-length-3 c = c .before .before .before .before .before .before .before .before .before .before .before .before .before .step .kept .1 .1 .1 .0 ∙ c .before .before .before .before .before .before .before .before .before .before .before .before .before .before .before .before .before .before .before .before .before .loop .inv .3
+same-length-3 c = let stepped = c .before .before .before .before .before .before .before .before .before .before .before .before .before in stepped .step .kept .1 .1 .1 .0 ∙ to-test stepped .before .loop .inv .3
 
 same-length-4 : tie.Need-same-length-4 Inv-loop μ-loop
-same-length-4 c = c .before .before .before .before .before .before .before .before .before .before .before .before .before .step .ensures .0 .long ∙ sym (c .before .before .before .before .before .before .before .before .before .before .before .before .before .before .before .before .before .before .before .before .before .before .before .before .before .before .before .before .pre .1 .1 .0)
+same-length-4 c = let stepped = c .before .before .before .before .before .before .before .before .before .before .before .before .before in stepped .step .ensures .0 .long ∙ sym (to-start (to-test stepped) .pre .1 .1 .0)
 
 same-length-5 : tie.Need-same-length-5 Inv-loop μ-loop
 same-length-5 c = search needs
 
 returns : tie.Need-returns Inv-loop μ-loop
 returns c =
-    let a = c .before .before .before .before .before .before .before .before .before .before .before .before .before .before .before .before .before .before .before .before .before .before .before .before .before .before .before .before .args in
-    let step = c .before .before .before .before .before .before .before .before .before .before .before .before .before .step .ensures in
+    let stepped = c .before .before .before .before .before .before .before .before .before .before .before .before .before in
+    let a = to-start (to-test stepped) .args in
+    let step = stepped .step .ensures in
     (stopped (between (heldIn (now (a .hold)) (a .held)) (a .line) (now (a .t))) (now (a .chunk)) (step .0 .few) (step .0 .long) (step .1 .0), step .1 .1)
 
 add-used : tie.Need-add-used Inv-loop μ-loop
-add-used c = search (needs, c .before .before .before .before .before .before .before .before .before .before .before .before .before .before .before .before .before .before .before .before .before .before .before .before .before .before .before .before .before .good, one-step (c .before .before .before .before .before .before .before .before .before .before .before .before .before .before .before .before .before .before .before .before .before .before .loop .inv .0) (c .before .before .before .before .before .before .before .before .before .before .before .before .before .before .before .before .before .before .before .before .before .loop-test .taken) (c .before .before .before .before .before .before .before .before .before .before .before .before .before .before .before .before .before .before .before .before .before .before .before .before .before .before .before .before .before .pre .1 .1 .1 .1) (c .before .before .before .before .before .before .before .before .before .before .before .before .before .before .step .ensures .0))
+add-used c =
+    let stepped = c .before .before .before .before .before .before .before .before .before .before .before .before .before .before in
+    let turn = to-test stepped in
+    search (needs, to-start turn .good, one-step (turn .before .loop .inv .0) (turn .loop-test .taken) (to-start turn .pre .1 .1 .1 .1) (stepped .step .ensures .0))
 
 loop-less : tie.Need-loop-less Inv-loop μ-loop
-loop-less c = let k = one-step (c .before .before .before .before .before .before .before .before .before .before .before .before .before .before .before .before .before .before .before .before .before .before .loop .inv .0) (c .before .before .before .before .before .before .before .before .before .before .before .before .before .before .before .before .before .before .before .before .before .loop-test .taken) (c .before .before .before .before .before .before .before .before .before .before .before .before .before .before .before .before .before .before .before .before .before .before .before .before .before .before .before .before .before .pre .1 .1 .1 .1) (c .before .before .before .before .before .before .before .before .before .before .before .before .before .before .step .ensures .0) in omega (arith, k .inside, k .some)
+loop-less c =
+    let stepped = c .before .before .before .before .before .before .before .before .before .before .before .before .before .before in
+    let turn = to-test stepped in
+    let k = one-step (turn .before .loop .inv .0) (turn .loop-test .taken) (to-start turn .pre .1 .1 .1 .1) (stepped .step .ensures .0) in
+    omega (arith, k .inside, k .some)
 
 loop-again : tie.Need-loop-again Inv-loop μ-loop
 loop-again c =
-    let step = c .before .before .before .before .before .before .before .before .before .before .before .before .before .before .step in
-    let inv = c .before .before .before .before .before .before .before .before .before .before .before .before .before .before .before .before .before .before .before .before .before .before .loop .inv in
-    (next-turn (inv .0) (c .before .before .before .before .before .before .before .before .before .before .before .before .before .before .before .before .before .before .before .before .before .loop-test .taken) (c .before .before .before .before .before .before .before .before .before .before .before .before .before .before .before .before .before .before .before .before .before .before .before .before .before .before .before .before .before .pre .1 .1 .1 .1) (step .ensures .0) (step .ensures .1 .0) (step .kept .1 .0), step .ensures .1 .1, step .kept .1 .1 .0 ∙ inv .2, step .kept .1 .1 .1 .0 ∙ inv .3)
+    let stepped = c .before .before .before .before .before .before .before .before .before .before .before .before .before .before in
+    let step = stepped .step in
+    let turn = to-test stepped in
+    let inv = turn .before .loop .inv in
+    (next-turn (inv .0) (turn .loop-test .taken) (to-start turn .pre .1 .1 .1 .1) (step .ensures .0) (step .ensures .1 .0) (step .kept .1 .0), step .ensures .1 .1, step .kept .1 .1 .0 ∙ inv .2, step .kept .1 .1 .1 .0 ∙ inv .3)
 
 same-length-6 : tie.Need-same-length-6 Inv-loop μ-loop
 same-length-6 c = c .before .loop .inv .0 .table
