@@ -23,9 +23,18 @@ Inv-loop chunk t₀ heads₀ nexts₀ hold₀ held line out₀ used₀ wrote₀ 
 abbrev μ-loop : tie.MeasureT-loop
 μ-loop chunk t₀ heads₀ nexts₀ hold₀ held line out₀ used₀ wrote₀ kept₀ number₀ t heads nexts hold out used wrote kept number = length chunk - used
 
--- the piece that begins at this turn lies in the chunk
+-- the way back: to the piece that begins at a turn, from where it is known to end in this chunk and from where it is booked
+abbrev to-piece : tie.Else1 Inv-loop μ-loop → tie.After-end Inv-loop μ-loop
+to-piece c = c .before .before
+
+abbrev to-room : tie.After-book-part Inv-loop μ-loop → tie.Else2 Inv-loop μ-loop
+to-room c = c .before .before .before .before .before .before .before
+
+-- that piece lies in the chunk
 bounds : (c : tie.After-end Inv-loop μ-loop) → (c .before .before .loop .used < c .end .result) × (c .end .result ≤ length (now (c .before .before .before .before .before .before .before .before .before .args .chunk)))
 bounds c = piece-bounds (now (c .before .before .before .before .before .before .before .before .before .args .chunk)) (c .before .before .loop .used) (c .end .result) (c .before .loop-test .taken) (c .end .ensures)
+
+-- ---- the needs
 
 loop-holds : tie.Need-loop-holds Inv-loop μ-loop
 loop-holds c =
@@ -72,7 +81,7 @@ same-length-5 c = same-long (c .before .before .before .before .before .before .
 returns : tie.Need-returns Inv-loop μ-loop
 returns c =
     let piece = c .before .before .before .before .before .before .before in
-    let inv = c .before .before .before .before .before .before .before .before .before .loop .inv in
+    let inv = piece .before .before .loop .inv in
     let kept = c .before .before .keep .ensures in
     (keeps-begun (inv .0) (piece .end .result) (piece .before .loop-test .taken) (piece .end .ensures) (c .before .before .before .before .before .if1 .taken) (kept .0) (kept .1 .0) (kept .1 .1), (inv .0 .good, inv .1))
 
@@ -96,9 +105,10 @@ same-length-10 c = same-long (c .before .before .before .before .before .loop .i
 
 returns-2 : tie.Need-returns-2 Inv-loop μ-loop
 returns-2 c =
-    let piece = c .before .before .before in
-    let inv = c .before .before .before .before .before .loop .inv in
-    (stops (inv .0) (piece .end .result) (piece .before .loop-test .taken) (piece .end .ensures) (c .before .if1 .left) (c .if2 .taken), (inv .0 .good, inv .1))
+    let ends = c .before in
+    let piece = to-piece ends in
+    let inv = piece .before .before .loop .inv in
+    (stops (inv .0) (piece .end .result) (piece .before .loop-test .taken) (piece .end .ensures) (ends .if1 .left) (c .if2 .taken), (inv .0 .good, inv .1))
 
 sub-book-part : tie.Need-sub-book-part Inv-loop μ-loop
 sub-book-part c = search needs
@@ -107,7 +117,7 @@ part-book-part-start : tie.Need-part-book-part-start Inv-loop μ-loop
 part-book-part-start c = search needs
 
 part-book-part-end : tie.Need-part-book-part-end Inv-loop μ-loop
-part-book-part-end c = search (needs, bounds (c .before .before .before .before .before .before .before))
+part-book-part-end c = search (needs, bounds (to-piece (c .before .before .before .before .before)))
 
 sub-book-part-2 : tie.Need-sub-book-part-2 Inv-loop μ-loop
 sub-book-part-2 c = search needs
@@ -120,24 +130,30 @@ part-book-part-end-2 c = search needs
 
 book-part-requires : tie.Need-book-part-requires Inv-loop μ-loop
 book-part-requires c κs =
-    let inv = c .before .before .before .before .before .before .before .before .before .before .before .loop .inv in
-    (inv .0 .good, (inv .1, (inv .0 .long, (inv .0 .few, room-lent (inv .0) (c .before .before .before .before .before .before .if2 .left)))))
+    let room = c .before .before .before .before .before .before in
+    let inv = to-piece (room .before) .before .before .loop .inv in
+    (inv .0 .good, (inv .1, (inv .0 .long, (inv .0 .few, room-lent (inv .0) (room .if2 .left)))))
 
 add-wrote : tie.Need-add-wrote Inv-loop μ-loop
-add-wrote c = search (needs, c .before .before .before .before .before .before .before .before .before .before .before .before .before .before .before .before .before .before .before .before .before .before .before .before .before .before .before .before .before .good, room-said (c .before .before .before .before .before .before .before .before .before .before .before .before .before .before .before .before .before .before .before .before .before .before .loop .inv .0) (c .before .before .before .before .before .before .before .before .before .before .before .before .before .before .before .before .before .if2 .left) _ (c .before .before .before .before .before .before .before .before .before .before .book-part .ensures .0))
+add-wrote c =
+    let room = to-room (c .before .before .before .before .before .before .before .before .before .before) in
+    let piece = to-piece (room .before) in
+    search (needs, piece .before .before .before .before .before .before .before .before .before .good, room-said (piece .before .before .loop .inv .0) (room .if2 .left) _ (c .before .before .before .before .before .before .before .before .before .before .book-part .ensures .0))
 
 next-line-requires : tie.Need-next-line-requires Inv-loop μ-loop
 next-line-requires c κs = search needs
 
 loop-less : tie.Need-loop-less Inv-loop μ-loop
-loop-less c = omega (arith, bounds (c .before .before .before .before .before .before .before .before .before .before .before .before .before .before .before .before .before .before .before .before .before))
+loop-less c = omega (arith, bounds (to-piece (to-room (c .before .before .before .before .before .before .before .before .before .before .before) .before)))
 
 loop-again : tie.Need-loop-again Inv-loop μ-loop
 loop-again c =
-    let said = c .before .before .before .before .before .before .before .before .before .before .before .book-part .ensures in
-    let piece = c .before .before .before .before .before .before .before .before .before .before .before .before .before .before .before .before .before .before .before .before .before in
-    let inv = c .before .before .before .before .before .before .before .before .before .before .before .before .before .before .before .before .before .before .before .before .before .before .before .loop .inv in
-    (next-turn (inv .0) (piece .end .result) (piece .before .loop-test .taken) (piece .end .ensures) (c .before .before .before .before .before .before .before .before .before .before .before .before .before .before .before .before .before .before .before .if1 .left) (c .before .before .before .before .before .before .before .before .before .before .before .before .before .before .before .before .before .before .if2 .left) (said .0, said .1 .0) (said .1 .1 .1) (c .next-line .ensures), said .1 .1 .0, search needs, search needs)
+    let booked = c .before .before .before .before .before .before .before .before .before .before .before in
+    let said = booked .book-part .ensures in
+    let room = to-room booked in
+    let piece = to-piece (room .before) in
+    let inv = piece .before .before .loop .inv in
+    (next-turn (inv .0) (piece .end .result) (piece .before .loop-test .taken) (piece .end .ensures) (room .before .if1 .left) (room .if2 .left) (said .0, said .1 .0) (said .1 .1 .1) (c .next-line .ensures), said .1 .1 .0, search needs, search needs)
 
 same-length-11 : tie.Need-same-length-11 Inv-loop μ-loop
 same-length-11 c = c .before .loop .inv .0 .table
