@@ -20,45 +20,62 @@ new-order-requires c κs = search needs
 
 append-requires : tie.Need-append-requires
 append-requires c κs =
-    let start = c .before .before .before .before .before .before .before .before .before in
-    (room-for (now (start .args .t)) _ _ (c .before .before .before .before .enum-told .given .1) (start .pre .0), search needs)
+    let known = c .before .before .before .before in
+    let start = known .before .before .before .before .before in
+    (room-for (now (start .args .t)) _ _ (known .enum-told .given .1) (start .pre .0), search needs)
 
 enum-known-plan-2 : tie.Need-enum-known-plan-2
 enum-known-plan-2 c = search needs
 
 refigure-requires : tie.Need-refigure-requires
-refigure-requires c κs = room-for (now (c .before .before .before .before .before .before .before .args .t)) _ _ (c .before .before .plan2 .given .1) (c .before .before .before .before .before .before .before .pre .0)
+refigure-requires c κs =
+    let known = c .before .before in
+    let start = known .before .before .before .before .before in
+    room-for (now (start .args .t)) _ _ (known .plan2 .given .1) (start .pre .0)
 
 enum-known-plan-3 : tie.Need-enum-known-plan-3
 enum-known-plan-3 c = search needs
 
 reprice-requires : tie.Need-reprice-requires
-reprice-requires c κs = room-for (now (c .before .before .before .before .before .before .before .args .t)) _ _ (c .before .before .plan3 .given .1) (c .before .before .before .before .before .before .before .pre .0)
+reprice-requires c κs =
+    let known = c .before .before in
+    let start = known .before .before .before .before .before in
+    room-for (now (start .args .t)) _ _ (known .plan3 .given .1) (start .pre .0)
 
 enum-known-plan-4 : tie.Need-enum-known-plan-4
 enum-known-plan-4 c = search needs
 
 refigure-requires-2 : tie.Need-refigure-requires-2
-refigure-requires-2 c κs = room-for (now (c .before .before .before .before .before .before .before .args .t)) _ _ (c .before .before .plan4 .given .1) (c .before .before .before .before .before .before .before .pre .0) .0
+refigure-requires-2 c κs =
+    let known = c .before .before in
+    let start = known .before .before .before .before .before in
+    room-for (now (start .args .t)) _ _ (known .plan4 .given .1) (start .pre .0) .0
 
 add-new-order : tie.Need-add-new-order
-add-new-order c = omega (arith, room-for (now (c .before .before .before .before .before .before .before .before .before .before .before .before .before .args .t)) _ _ (c .before .before .before .before .before .before .before .before .plan4 .given .1) (c .before .before .before .before .before .before .before .before .before .before .before .before .before .pre .0) .0)
+add-new-order c =
+    let known = c .before .before .before .before .before .before .before .before in
+    let start = known .before .before .before .before .before in
+    omega (arith, room-for (now (start .args .t)) _ _ (known .plan4 .given .1) (start .pre .0) .0)
 
 new-order-requires-2 : tie.Need-new-order-requires-2
 new-order-requires-2 c κs = search needs
 
 append-requires-2 : tie.Need-append-requires-2
 append-requires-2 c κs =
-    let start = c .before .before .before .before .before .before .before .before .before .before .before .before .before .before in
-    let plan = c .before .before .before .before .before .before .before .before .before .plan4 .given in
-    let room = room-for (now (start .args .t)) _ _ (plan .1) (start .pre .0) in
-    let done = c .before .before .before .before .before .before .refigure2 .ensures in
-    (free-kept (now (start .args .t)) _ (plan .0 .0) (plan .0 .1 .0) done (room .1), refigured-beside (now (start .args .t)) _ (plan .0 .0) (room .0) (start .pre .1) (plan .0 .1 .0) done)
+    let stored = c .before .before .before .before .before .before in
+    let known = stored .before .before .before in
+    let start = known .before .before .before .before .before in
+    let t = now (start .args .t) in
+    let plan = known .plan4 .given in
+    let room = room-for t _ _ (plan .1) (start .pre .0) in
+    let done = stored .refigure2 .ensures in
+    (free-kept t _ (plan .0 .0) (plan .0 .1 .0) done (room .1), refigured-beside t _ (plan .0 .0) (room .0) (start .pre .1) (plan .0 .1 .0) done)
 
 returns : tie.Need-returns
 returns c =
-    let start = c .before .before .before .before .before .before in
-    let plan = c .before .plan .given in
+    let known = c .before in
+    let start = known .before .before .before .before .before in
+    let plan = known .plan .given in
     (carried (now (start .args .t)) (start .args .r) _ _ (Refused (plan .0 .0)) _ (plan .1) refl refl, search needs)
 
 same-length : tie.Need-same-length
@@ -72,29 +89,38 @@ same-length-3 c = search needs
 
 returns-2 : tie.Need-returns-2
 returns-2 c =
-    let start = c .before .before .before .before .before .before .before .before .before .before .before .before .before .before .before .before in
-    let stored = c .before .before .before .before .before .before .append .ensures in
-    (carried (now (start .args .t)) (start .args .r) _ _ Booked _ (c .before .before .before .before .before .before .before .before .before .before .before .enum-told .given .1) refl (stored .0 ∙ ap (λ o. appended o (now (start .args .t))) (c .before .before .before .before .before .before .before .new-order .ensures)), stored .1)
+    let stored = c .before .before .before .before .before .before in
+    let known = stored .before .before .before .before .before in
+    let start = known .before .before .before .before .before in
+    let t = now (start .args .t) in
+    let done = stored .append .ensures in
+    (carried t (start .args .r) _ _ Booked _ (known .enum-told .given .1) refl (done .0 ∙ ap (λ o. appended o t) (stored .before .new-order .ensures)), done .1)
 
 same-length-4 : tie.Need-same-length-4
 same-length-4 c = search needs
 
 returns-3 : tie.Need-returns-3
 returns-3 c =
-    let start = c .before .before .before .before .before .before .before .before .before .before in
-    let plan = c .before .before .before .before .before .plan2 .given in
-    let stored = c .before .before .refigure .ensures in
-    (carried (now (start .args .t)) (start .args .r) _ _ Booked _ (plan .1) refl stored, refigured-beside (now (start .args .t)) _ (plan .0 .0) (room-for (now (start .args .t)) _ _ (plan .1) (start .pre .0)) (start .pre .1) (plan .0 .1 .0) stored)
+    let stored = c .before .before in
+    let known = stored .before .before .before in
+    let start = known .before .before .before .before .before in
+    let t = now (start .args .t) in
+    let plan = known .plan2 .given in
+    let done = stored .refigure .ensures in
+    (carried t (start .args .r) _ _ Booked _ (plan .1) refl done, refigured-beside t _ (plan .0 .0) (room-for t _ _ (plan .1) (start .pre .0)) (start .pre .1) (plan .0 .1 .0) done)
 
 same-length-5 : tie.Need-same-length-5
 same-length-5 c = search needs
 
 returns-4 : tie.Need-returns-4
 returns-4 c =
-    let start = c .before .before .before .before .before .before .before .before .before .before in
-    let plan = c .before .before .before .before .before .plan3 .given in
-    let stored = c .before .before .reprice .ensures in
-    (carried (now (start .args .t)) (start .args .r) _ _ Booked _ (plan .1) refl stored, repriced-beside (now (start .args .t)) _ (plan .0 .0) (room-for (now (start .args .t)) _ _ (plan .1) (start .pre .0)) (start .pre .1) (plan .0 .1 .0) stored)
+    let stored = c .before .before in
+    let known = stored .before .before .before in
+    let start = known .before .before .before .before .before in
+    let t = now (start .args .t) in
+    let plan = known .plan3 .given in
+    let done = stored .reprice .ensures in
+    (carried t (start .args .r) _ _ Booked _ (plan .1) refl done, repriced-beside t _ (plan .0 .0) (room-for t _ _ (plan .1) (start .pre .0)) (start .pre .1) (plan .0 .1 .0) done)
 
 same-length-6 : tie.Need-same-length-6
 same-length-6 c = search needs
@@ -107,11 +133,15 @@ same-length-8 c = search needs
 
 returns-5 : tie.Need-returns-5
 returns-5 c =
-    let start = c .before .before .before .before .before .before .before .before .before .before .before .before .before .before .before .before .before .before .before .before .before in
-    let plan = c .before .before .before .before .before .before .before .before .before .before .before .before .before .before .before .before .plan4 .given in
-    let stored = c .before .before .before .before .before .before .append2 .ensures in
-    let out = one-replaced (now (start .args .t)) _ _ (plan .0 .0) (plan .0 .1 .0) (start .args .r) _ (c .before .before .before .before .before .before .before .before .before .before .before .before .before .refigure2 .ensures) (c .before .before .before .before .before .before .before .new-order2 .ensures) (stored .0) in
-    (carried (now (start .args .t)) (start .args .r) _ _ Booked _ (plan .1) refl out, stored .1)
+    let stored = c .before .before .before .before .before .before in
+    let refigured = stored .before .before .before .before .before .before .before in
+    let known = refigured .before .before .before in
+    let start = known .before .before .before .before .before in
+    let t = now (start .args .t) in
+    let plan = known .plan4 .given in
+    let done = stored .append2 .ensures in
+    let out = one-replaced t _ _ (plan .0 .0) (plan .0 .1 .0) (start .args .r) _ (refigured .refigure2 .ensures) (stored .before .new-order2 .ensures) (done .0) in
+    (carried t (start .args .r) _ _ Booked _ (plan .1) refl out, done .1)
 
 pub carry-out-spec : {M : Type 1} → statement M
 carry-out-spec =
