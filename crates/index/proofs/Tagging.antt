@@ -1,11 +1,12 @@
 -- The tag's step by wrapping sums, and the tag of what is left.
-use Prim.Native.Nat.{ℕ, _+_, _*_, _%_, _^_, _≤_, _<_}
-use native.Mathlib.Nat.{mod-add-mod, add-comm, mod-eq-of-lt, mod-lt}
+use Prim.Native.Nat.{ℕ, _+_, _-_, _*_, _/_, _%_, _^_, _≤_, _<_}
+use native.Mathlib.Nat.{mod-add-mod, add-comm, mod-eq-of-lt, mod-lt, sub-zero}
 use native.Mathlib.Omega.{arith}
 use mathlib.Core.Path.{_≡_, sym, ap, _∙_}
 use mathlib.Core.List.{List}
-use lib.ListN.{length, getD, drop, drop-of-length-le}
-use Rattle.index.specs.Tags.{tagFrom, bucketOf}
+use lib.ListN.{length, getD, take, drop, length-drop, drop-of-length-le}
+use lib.Seq.{take-all}
+use Rattle.index.specs.Tags.{tagFrom, byHalves, bucketOf}
 use Rattle.run.proofs.Scan.{at-next}
 
 -- a wrapped sum of wrapped numbers
@@ -34,10 +35,17 @@ tag-next s i h g l e = rw (at-next s i l) (ap (λ x. tagFrom x (drop (i + 1) s))
 pub tag-end : (s : List ℕ) (i h : ℕ) → length s ≤ i → tagFrom h (drop i s) ≡ h
 tag-end s i h l = rw (drop-of-length-le s l)
 
-pub bucket-by : (m h b : ℕ) (k : List ℕ) → h ≡ tagFrom 0 k → b ≡ h % m → b ≡ bucketOf m k
+-- the parts as they are lent
+pub halves-so : (tag : List ℕ → ℕ) (s : List ℕ) {a b r : ℕ} → a ≡ tag (take (length s / 2 - 0) s) → b ≡ tag (take (length s - length s / 2) (drop (length s / 2) s))
+    → r ≡ (a * 37 + b) % 2 ^ 32 → r ≡ byHalves tag s
+halves-so tag s e f g =
+    let rest : take (length s - length s / 2) (drop (length s / 2) s) ≡ drop (length s / 2) s = take-all (length s - length s / 2) (drop (length s / 2) s) (rw length-drop (omega arith)) in
+    g ∙ rw (e, f, rest, sub-zero)
+
+pub bucket-by : (m h b : ℕ) (k : List ℕ) → h ≡ byHalves (byHalves (tagFrom 0)) k → b ≡ h % m → b ≡ bucketOf m k
 unfolding bucketOf
 bucket-by m h b k e q = q ∙ ap (λ x. x % m) e
 
 pub bucket-under : (m b : ℕ) (k : List ℕ) → 1 ≤ m → b ≡ bucketOf m k → b < m
 unfolding bucketOf
-bucket-under m b k l q = rw q (mod-lt (tagFrom 0 k) {m = m} l)
+bucket-under m b k l q = rw q (mod-lt (byHalves (byHalves (tagFrom 0)) k) {m = m} l)

@@ -21,6 +21,9 @@ loop-holds c = search needs
 shared-slice-read-more : tie.Need-shared-slice-read-more Inv-loop μ-loop
 shared-slice-read-more c = search needs
 
+cast-more : tie.Need-cast-more Inv-loop μ-loop
+cast-more c = search (needs, c .shared-slice-known2 .given (c .before .before .loop .i))
+
 more-requires : tie.Need-more-requires Inv-loop μ-loop
 more-requires c κs = search needs
 
@@ -50,6 +53,7 @@ tag-spec =
     μ-loop
     loop-holds
     shared-slice-read-more
+    cast-more
     more-requires
     add-i
     loop-less
