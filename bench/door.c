@@ -127,7 +127,6 @@ static void write_sheet(uint64_t before)
     must(written > MOST && memcmp(sheet, "orders 512 ", 11) == 0, "a sheet is not of 512 orders");
 }
 
-#ifdef SKURZELT_BOOK_ALL
 /* Books the pieces from a place on, at most 4,096 of them, and gives the place behind them. */
 static size_t book_pieces(const uint8_t *text, size_t length, size_t at, uint64_t *pieces)
 {
@@ -149,7 +148,6 @@ static void book_all(uint64_t before)
     (void)before;
     must(book_pieces(executed[0], sizeof executed, 0, &pieces) == sizeof executed && pieces == PIECES, "book_all left pieces out");
 }
-#endif
 
 /* The calls by name, each with the table that a round begins with and the lines that one call is about. An E takes one contract of each order in turn, so that a
    round runs out of none. */
@@ -163,9 +161,7 @@ static const struct measure {
     {"book, 0 orders: empty_table, then an A", empty, book_first, 1},
     {"book, 256 orders: an E", half, book_of_half, 1},
     {"book, 512 orders: an E", families, book_of_most, 1},
-#ifdef SKURZELT_BOOK_ALL
     {"book_all, 512 orders: 4,096 E's, each", families, book_all, PIECES},
-#endif
     {"check_table, one family of 512 orders", family, check, 1},
     {"check_table, 512 families", families, check, 1},
     {"find_order, 512 orders: each in turn", families, find, 1},
@@ -210,7 +206,6 @@ static void print_time(const struct measure *of)
     print_ns(of->name, best);
 }
 
-#ifdef SKURZELT_BOOK_ALL
 static uint8_t *contents(const char *name, size_t *length)
 {
     FILE *file = fopen(name, "rb");
@@ -248,7 +243,6 @@ static void print_day(const char *day_name, const char *sheet_name)
     free(day);
     free(wanted);
 }
-#endif
 
 /* ---- stack: a call runs on one that is painted, and where the paint is gone it was */
 
@@ -288,9 +282,7 @@ int main(int count, char **words)
     prepare();
     for (int i = 0; i < COUNT; i++)
         (times ? print_time : print_stack)(&MEASURES[i]);
-#ifdef SKURZELT_BOOK_ALL
     if (times)
         print_day(words[2], words[3]);
-#endif
     return EXIT_SUCCESS;
 }

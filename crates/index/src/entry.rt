@@ -4,7 +4,7 @@ ghost use mathlib.Core.Path.{_≡_};
 ghost use lib.ListN.{length, getD, set};
 ghost use Rattle.section.specs.Sections.{recordOf};
 ghost use Rattle.index.specs.Indexes.{Indexed, Enters, Entered, Appends, Appended};
-use crate::lookup;
+use crate::chain;
 use crate::tag;
 use section::Section;
 
@@ -35,7 +35,7 @@ fn enter_key(
     ensures { λ r. ⌜ Entered keys (now (t .entry)) n (now (heads .entry)) (now (nexts .entry)) r (now (heads .exit)) (now (nexts .exit)) ⌝ }
 {
     let b = tag::bucket(key, heads.len());
-    let found = lookup::walk(t, keys, n, heads, nexts, b, key);
+    let found = chain::walk(t, keys, n, heads, nexts, b, key);
     link(heads, nexts, n, b);
     found
 }

@@ -98,7 +98,7 @@ earliest-place s (suc n) key e =
     ∙ sym (place-last (keyIn key) os (orderIn (slot s n)))
     ∙ ap (place (keyIn key)) (sym (records-last orderIn slots s 0 n ∙ ap (λ i. os ++ (orderIn (slot s i) ∷ [])) (zero-add n)))
 
--- `slot::lookup::find_indexed`: the index is asked over keys that are known to be the table's
+-- `slot::finding::find_indexed`: the index is asked over keys that are known to be the table's
 module _ {keys : Section} (q : keys ≡ slotKeys) where
   pub keys-indexed : {s : List ℕ} {n : ℕ} {heads nexts : List ℕ} → Indexed slotKeys s n heads nexts → Indexed keys s n heads nexts
   keys-indexed x = rw q x

@@ -1,14 +1,14 @@
 // An order at a slot of the lent table (docs/LAYOUT.md), and the earliest order with a key.
-mod lookup;
+mod finding;
 pub mod offset;
 mod read;
 mod write;
 
-pub use lookup::find;
-pub use lookup::find_indexed;
-pub use lookup::find_key;
-pub use lookup::find_key_indexed;
-pub use lookup::keys;
+pub use finding::find;
+pub use finding::find_indexed;
+pub use finding::find_key;
+pub use finding::find_key_indexed;
+pub use finding::keys;
 pub use read::elder_at;
 pub use read::figures_in;
 pub use read::order_at;

@@ -1,4 +1,4 @@
--- `slot::lookup::find` meets its contract: while no slot before i has the key, the answer from i on is the whole answer.
+-- `slot::finding::find` meets its contract: while no slot before i has the key, the answer from i on is the whole answer.
 use Prim.Native.Nat.{_-_}
 use mathlib.Core.Path.{_≡_, sym, _∙_}
 use borrow.Author.Needs.{needs}
@@ -7,8 +7,8 @@ use Rattle.order.specs.declared.Key.{Key}
 use Rattle.day.specs.Machine.{place}
 use Rattle.slot.specs.Places.{ordersIn}
 use Rattle.slot.proofs.Search.{answerFrom, search-first, search-next, search-hit, search-end}
-use Rattle.slot.proofs.lookup.find.Statement.{statement}
-use Rattle.slot.proofs.lookup.find.Tie as tie
+use Rattle.slot.proofs.finding.find.Statement.{statement}
+use Rattle.slot.proofs.finding.find.Tie as tie
 
 abbrev Inv-loop : tie.InvT-loop
 Inv-loop t n source token i₀ i =

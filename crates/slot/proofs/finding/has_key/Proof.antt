@@ -1,10 +1,10 @@
--- `slot::lookup::has_key` meets its contract: the tests of Token and Source, in either order.
+-- `slot::finding::has_key` meets its contract: the tests of Token and Source, in either order.
 use borrow.Author.Needs.{needs}
 use denote.Ref.{now}
 use Rattle.order.specs.declared.Key.{Key}
 use Rattle.slot.proofs.Search.{its-token, other-token}
-use Rattle.slot.proofs.lookup.has_key.Statement.{statement}
-use Rattle.slot.proofs.lookup.has_key.Tie as tie
+use Rattle.slot.proofs.finding.has_key.Statement.{statement}
+use Rattle.slot.proofs.finding.has_key.Tie as tie
 
 add-same-at : tie.Need-add-same-at
 add-same-at c = search needs

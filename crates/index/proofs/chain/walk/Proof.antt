@@ -1,4 +1,4 @@
--- `index::lookup::walk` meets its contract: what is found so far, and the records up to the one it stands at, give the answer.
+-- `index::chain::walk` meets its contract: what is found so far, and the records up to the one it stands at, give the answer.
 use Prim.Native.Nat.{_-_, _<_}
 use native.Mathlib.Omega.{arith}
 use mathlib.Core.Bool.{true, false}
@@ -8,8 +8,8 @@ use denote.Ref.{now}
 use lib.ListN.{length}
 use Rattle.index.proofs.Tagging.{bucket-under}
 use Rattle.index.proofs.Chains.{Walked, walk-first, walk-next, walk-falls, walk-end}
-use Rattle.index.proofs.lookup.walk.Statement.{statement}
-use Rattle.index.proofs.lookup.walk.Tie as tie
+use Rattle.index.proofs.chain.walk.Statement.{statement}
+use Rattle.index.proofs.chain.walk.Tie as tie
 
 abbrev Inv-loop : tie.InvT-loop
 Inv-loop t keys n heads nexts b key best₀ at₀ best at = Walked keys t n heads nexts key best at

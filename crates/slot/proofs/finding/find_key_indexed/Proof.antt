@@ -1,4 +1,4 @@
--- `slot::lookup::find_key_indexed` meets its contract: the run that is asked for says the key.
+-- `slot::finding::find_key_indexed` meets its contract: the run that is asked for says the key.
 use Prim.Native.Nat.{ℕ}
 use mathlib.Core.Path.{_≡_, ap, _∙_}
 use borrow.Author.Needs.{needs}
@@ -8,8 +8,8 @@ use Rattle.order.specs.declared.Key.{Key}
 use Rattle.day.specs.Machine.{place}
 use Rattle.slot.specs.Places.{ordersIn}
 use Rattle.slot.proofs.Keyed.{key-joined}
-use Rattle.slot.proofs.lookup.find_key_indexed.Statement.{statement}
-use Rattle.slot.proofs.lookup.find_key_indexed.Tie as tie
+use Rattle.slot.proofs.finding.find_key_indexed.Statement.{statement}
+use Rattle.slot.proofs.finding.find_key_indexed.Tie as tie
 
 slice-aggregate-put-key : tie.Need-slice-aggregate-put-key
 slice-aggregate-put-key c = search needs

@@ -1,4 +1,4 @@
--- `slot::lookup::find_indexed` meets its contract: the earliest record with the key is the place of its order.
+-- `slot::finding::find_indexed` meets its contract: the earliest record with the key is the place of its order.
 use native.Mathlib.Omega.{arith}
 use mathlib.Core.Path.{_≡_, sym, ap, _∙_}
 use borrow.Author.Needs.{needs}
@@ -7,8 +7,8 @@ use Rattle.day.specs.Machine.{place}
 use Rattle.slot.specs.Slots.{keyIn}
 use Rattle.slot.specs.Places.{ordersIn}
 use Rattle.slot.proofs.Keyed.{keys-indexed, found-place}
-use Rattle.slot.proofs.lookup.find_indexed.Statement.{statement}
-use Rattle.slot.proofs.lookup.find_indexed.Tie as tie
+use Rattle.slot.proofs.finding.find_indexed.Statement.{statement}
+use Rattle.slot.proofs.finding.find_indexed.Tie as tie
 
 keys-requires : tie.Need-keys-requires
 keys-requires c κs = search needs
