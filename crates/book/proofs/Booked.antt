@@ -3,11 +3,9 @@ use Prim.Native.Nat.{ℕ, _+_, _<_}
 use mathlib.Core.Path.{_≡_, refl, ap, ap₂, _∙_}
 use mathlib.Core.Bool.{Bool, true, false, cond}
 use mathlib.Core.List.{List, [], _∷_}
-use native.Mathlib.Omega.{arith}
 use lib.Dec.{eqb}
 use lib.ListN.{length}
 use lib.Seq.{sets, length-sets}
-use Rattle.cell.specs.Cells.{le}
 use Rattle.refusal.specs.Answer.{value, refusedBy}
 use Rattle.refusal.specs.declared.Refusal.{Refusal}
 use Rattle.refusal.specs.declared.Refusal.the-variants.{Damaged, DayOver}
@@ -24,7 +22,7 @@ use Rattle.table.specs.Changes.{changedAt, appended}
 use Rattle.table.specs.Tables.{countIn, limitOf, sound, tableIn}
 use Rattle.lookup.specs.Beside.{Beside}
 use Rattle.lookup.proofs.Beside.{over-beside, changed-beside}
-use Rattle.slot.proofs.Laws.{header-kept}
+use Rattle.table.proofs.Holding.{count-stored}
 use Rattle.book.specs.Bytes.{bookBytes, bookAnswer}
 use Rattle.book.specs.Plans.{refigured, Plans, RoomFor, Carried, BooksSaid, answerOf, afterPlan}
 use Rattle.book.specs.Promises.{Books, bookingOf}
@@ -44,8 +42,7 @@ module _ (s u : List ℕ) (i : ℕ) where
   pub free-kept : (f : Figures) → u ≡ refigured i f s → countIn s < limitOf (length s) → countIn u < limitOf (length u)
   free-kept f e h =
       let b = slotBytes (withFigures (λ (old : Figures). f) (orderIn (slot s i))) in
-      let kept : countIn (sets s (slotAt i) b) ≡ countIn s = ap le (header-kept s b i 0 4 (omega arith)) in
-      rw (e, kept, length-sets s (slotAt i) b) h
+      rw (e, count-stored s b i, length-sets s (slotAt i) b) h
 
   module _ {heads nexts : List ℕ} (h : SlotInside i s) (x : Beside s heads nexts) where
     pub refigured-beside : (f : Figures) → u ≡ refigured i f s → Beside u heads nexts

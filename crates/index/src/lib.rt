@@ -1,5 +1,5 @@
 // The earliest record with a key, by an index beside the records: for each bucket the latest of its records, and for each record the one before it in its bucket.
-// Keys that all fall into one bucket make a chain of all records, and a lookup then costs what a scan costs.
+// Keys that all fall into one bucket make a chain of all records, and a lookup then walks them all.
 mod building;
 mod chain;
 mod entry;
@@ -9,3 +9,6 @@ pub use building::build;
 pub use chain::find;
 pub use entry::append;
 pub use entry::enter;
+
+// The buckets of an index of 512 keys, four for a key: by a number known here the remainder of a tag costs no division.
+pub const USUAL: usize = 2048;

@@ -2,10 +2,8 @@
 ghost use Prim.Native.Nat.{_+_, _*_, _≤_, _%_, _^_};
 ghost use mathlib.Core.Path.{_≡_};
 ghost use Rattle.index.specs.Tags.{tagFrom, byHalves, bucketOf};
+use crate::USUAL;
 use std::num::wrapping_add_u32;
-
-// The buckets for a table of 512 orders.
-const USUAL: usize = 2048;
 
 // 37 times a tag, by sums that wrap, and a byte or another tag.
 fn more(h: u32, b: u32) -> u32
@@ -53,7 +51,7 @@ pub fn bucket(key: &[u8], m: usize) -> usize
     ensures { λ r. ⌜ r ≡ bucketOf m (now (key .entry)) ⌝ }
 {
     let h = by_quarters(key) as usize;
-    // By a number known here the remainder costs no division.
+    // The compiler knows this number: no division.
     if m == USUAL {
         return h % USUAL;
     }

@@ -6,8 +6,7 @@ use mathlib.Core.Bool.{true}
 use mathlib.Core.List.{List, [], _∷_}
 use lib.ListN.{length}
 use lib.Seq.{sets, length-sets}
-use Rattle.run.proofs.Parts.{part-before}
-use Rattle.cell.specs.Cells.{le, leBytes}
+use Rattle.cell.specs.Cells.{leBytes}
 use Rattle.order.specs.declared.Order.{Order}
 use Rattle.section.specs.Sections.{Holds}
 use Rattle.section.specs.declared.Section.{Section}
@@ -15,10 +14,9 @@ use Rattle.index.specs.Indexes.{Indexed, Enters, Builds}
 use Rattle.slot.specs.Slots.{keyIn, seriesIn, slotBytes, orderIn}
 use Rattle.slot.specs.Places.{slotKeys, slotAt, slot, SlotInside}
 use Rattle.slot.proofs.Keeping.{header-indexed, changed-indexed, appended-indexed}
-use Rattle.slot.proofs.Laws.{header-kept}
 use Rattle.table.specs.Changes.{changedAt, appended}
 use Rattle.table.specs.Tables.{countIn, limitOf, sound}
-use Rattle.table.proofs.Holding.{count-appended, length-appended}
+use Rattle.table.proofs.Holding.{count-appended, count-over, count-stored, length-appended}
 use Rattle.table.proofs.Limits.{limit-small, slot-inside}
 use Rattle.table.proofs.Sound.{sound-apart, slots-there}
 use Rattle.lookup.specs.Beside.{Beside}
@@ -34,7 +32,7 @@ beside-kept e n f b = record { room = λ h. rw e (b .room h); indexed = λ h. rw
 -- the day's end
 pub over-beside : {s heads nexts : List ℕ} → Beside s heads nexts → Beside (sets s 4 (1 ∷ [])) heads nexts
 over-beside {s} b =
-    beside-kept (length-sets s 4 (1 ∷ [])) (ap le (part-before s (1 ∷ []) 4 0 4 (omega arith))) (λ x. header-indexed x (1 ∷ []) 4 (omega arith)) b
+    beside-kept (length-sets s 4 (1 ∷ [])) (count-over s) (λ x. header-indexed x (1 ∷ []) 4 (omega arith)) b
 
 -- an order changed, but not its key
 pub changed-beside : {s heads nexts : List ℕ} → Beside s heads nexts → (i : ℕ) (f : Order → Order) → SlotInside i s
@@ -42,7 +40,7 @@ pub changed-beside : {s heads nexts : List ℕ} → Beside s heads nexts → (i 
     → Beside (changedAt i f s) heads nexts
 changed-beside {s} b i f h k r =
     let o = f (orderIn (slot s i)) in
-    beside-kept (length-sets s (slotAt i) (slotBytes o)) (ap le (header-kept s (slotBytes o) i 0 4 (omega arith))) (λ x. changed-indexed x i o h k r) b
+    beside-kept (length-sets s (slotAt i) (slotBytes o)) (count-stored s (slotBytes o) i) (λ x. changed-indexed x i o h k r) b
 
 -- ---- one order more
 

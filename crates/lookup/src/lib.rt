@@ -14,7 +14,7 @@ use slot::Place;
 use table::header;
 
 // Four buckets an order, so that few orders share one.
-pub const HEADS: usize = 4 * NEXTS;
+pub const HEADS: usize = index::USUAL;
 
 pub const NEXTS: usize = table::LIMIT as usize;
 

@@ -51,6 +51,14 @@ tail-written o f =
     let wide : length front ≡ 75 = simp (length-append, f .source .0, f .token .0, f .root .0) in
     rw (drop-at front (replicate 5 0) 75 wide)
 
+-- ---- the count, through a store into a slot and at the day's end
+
+pub count-stored : (s b : List ℕ) (i : ℕ) → countIn (sets s (slotAt i) b) ≡ countIn s
+count-stored s b i = ap le (header-kept s b i 0 4 (omega arith))
+
+pub count-over : (s : List ℕ) → countIn (sets s 4 (1 ∷ [])) ≡ countIn s
+count-over s = ap le (part-before s (1 ∷ []) 4 0 4 (omega arith))
+
 -- ---- an order is stored
 
 module _ (s : List ℕ) (i : ℕ) (o : Order) where
@@ -61,7 +69,7 @@ module _ (s : List ℕ) (i : ℕ) (o : Order) where
   same-length = length-sets s (slotAt i) (slotBytes o)
 
   same-count : countIn now ≡ countIn s
-  same-count = ap le (header-kept s (slotBytes o) i 0 4 (omega arith))
+  same-count = count-stored s (slotBytes o) i
 
   same-mark : getD now 4 0 ≡ getD s 4 0
   same-mark = header-byte s (slotBytes o) i 4 (omega arith)
@@ -199,7 +207,7 @@ over-holds {s} {t} h =
     long = length-sets s 4 (1 ∷ [])
 
     count : countIn (sets s 4 (1 ∷ [])) ≡ countIn s
-    count = ap le (part-before s (1 ∷ []) 4 0 4 (omega arith))
+    count = count-over s
 
     mark : getD (sets s 4 (1 ∷ [])) 4 0 ≡ 1
     mark = getD-set-same s 4 1 0 (omega (arith, slots-inside (length s) 0 (h .meant) (omega arith)))
