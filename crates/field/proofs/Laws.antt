@@ -21,8 +21,12 @@ use Rattle.field.proofs.Fill.{FillWritten, length-snoc, snoc-written, d
 pub pow10-mono : (i j : ℕ) → i ≤ j → 10 ^ i ≤ 10 ^ j
 pow10-mono i j h = pow-le-pow-right (omega arith) h
 
-pub step-below : (i v d : ℕ) → v < 10 ^ i → d ≤ 9 → v * 10 + d < 10 ^ (i + 1)
-step-below i v d h k = rw (add-one, pow-suc) (omega arith)
+-- what i lower halves of a byte can say
+abbrev pub Halves : ℕ → ℕ → Type 0
+Halves i v = 9 * v + 15 ≤ 15 * 10 ^ i
+
+pub halves-next : (i v d : ℕ) → Halves i v → d ≤ 15 → Halves (i + 1) (v * 10 + d)
+halves-next i v d h k = rw (add-one, pow-suc) (omega arith)
 
 four-more : (i : ℕ) → 10 ^ (i + 4) ≡ 10 ^ i * 10000
 four-more i = simp (add-four, pow-suc) (omega arith)

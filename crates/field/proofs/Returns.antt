@@ -15,7 +15,7 @@ use Rattle.field.specs.Verbatim.{isText, isCode, lawfulIf}
 use Rattle.field.specs.Number.{within, spaced, digitsAfter, dollars, price}
 use Rattle.field.specs.Skipped.{Skipped}
 use Rattle.run.proofs.Scan.{at-next}
-use Rattle.field.proofs.Laws.{pow10-mono, spaced-write, digits-write}
+use Rattle.field.proofs.Laws.{Halves, pow10-mono, spaced-write, digits-write}
 use Rattle.field.specs.declared.Class.the-variants.{Printable}
 use Rattle.field.specs.declared.Bytes.the-variants.{Lawful, Unlawful}
 use Rattle.field.specs.declared.Number.{Number}
@@ -70,8 +70,8 @@ one-code codes [] b h e = let z : ⊥ = omega arith in absurd z
 one-code codes (a ∷ []) b h e = rw e
 one-code codes (a ∷ d ∷ s) b h e = let z : ⊥ = omega arith in absurd z
 
--- one digit more stays below the cap of nineteen
-pub below-cap : (i v : ℕ) → v < 10 ^ i → i < 19 → v < 10 ^ 18
+-- one more stays below the cap of nineteen
+pub below-cap : (i v : ℕ) → Halves i v → i < 19 → 9 * v ≤ 15 * 10 ^ 18
 below-cap i v h k = let e : 10 ^ i ≤ 10 ^ 18 = pow10-mono i 18 (omega arith) in omega arith
 
 module _ (s : List ℕ) (r : ℕ) (sk : Skipped s r) where
@@ -90,6 +90,11 @@ module _ (s : List ℕ) (r : ℕ) (sk : Skipped s r) where
   led-by-digit n h e k =
       let m : length (drop r s) ≤ length s - r = rw length-drop (le-refl _) in
       k ∙ rw (take-all (length s - r) (drop r s) m, at-next s r h) (sym (sk .same ∙ rw (at-next s r h, sk .stops h, ne-eqb _ 48 e)))
+
+  pub all-digits : (n : Number) → r < length s → (getD s r 0 ≡ 48 → ⊥) → r ≡ 0 → n ≡ digitsAfter 0 s → n ≡ spaced s
+  all-digits n h e z k =
+      let whole : take (length s - r) (drop r s) ≡ s = rw (z, sub-zero) (take-all (length s) s (le-refl _)) in
+      led-by-digit n h e (k ∙ rw whole)
 
 no-dollars : (n : Number) → Bad ≡ dollars Bad n
 no-dollars (Value v) = refl

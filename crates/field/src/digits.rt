@@ -5,7 +5,9 @@ ghost use lib.ListN.{length};
 ghost use Rattle.field.specs.Number.{digitsAfter, digits};
 ghost use Rattle.field.specs.Number.{number as Number·number, spaced as Number·spaced, within as Number·within, price as Number·price};
 ghost use Rattle.field.specs.Skipped.{Skipped};
+use crate::Class;
 use crate::Number;
+use crate::verbatim;
 
 fn skip_spaces(s: &[u8]) -> usize
     ensures { λ r. ⌜ Skipped (now (s .entry)) r ⌝ }
@@ -20,24 +22,24 @@ fn skip_spaces(s: &[u8]) -> usize
     i
 }
 
+// No early exit, so that the bytes are tested side by side. A byte that is no digit counts for what its lower half says: the sum fits all the same.
 fn digits_only(s: &[u8]) -> Number
     requires { ⌜ length (now s) ≤ 19 ⌝ }
     ensures { λ r. ⌜ r ≡ digitsAfter 0 (now (s .entry)) ⌝ }
 {
     let mut v: u64 = 0;
+    let mut good = true;
     let mut i = 0;
     while i < s.len() {
         let b = s[i];
-        if b < 48 {
-            return Number::Bad;
-        }
-        if 57 < b {
-            return Number::Bad;
-        }
-        v = v * 10 + (b - 48) as u64;
+        good = good & verbatim::is_of(Class::Digit, b);
+        v = v * 10 + (b % 16) as u64;
         i += 1;
     }
-    Number::Value(v)
+    if good {
+        return Number::Value(v);
+    }
+    Number::Bad
 }
 
 // The rule of a number that space fill pads: every number field today, and the whole part of a price.
@@ -54,6 +56,10 @@ fn spaced(s: &[u8]) -> Number
             return Number::Value(0);
         }
         return Number::Bad;
+    }
+    // Where nothing is filled the compiler knows how many digits there are.
+    if at == 0 {
+        return digits_only(s);
     }
     digits_only(&s[at..])
 }

@@ -1,7 +1,7 @@
 -- `field::digits::spaced` meets its contract.
 use borrow.Author.Needs.{needs}
 use denote.Ref.{now}
-use Rattle.field.proofs.Returns.{spaces-only, lone-zero, led-by-zero, led-by-digit}
+use Rattle.field.proofs.Returns.{spaces-only, lone-zero, led-by-zero, led-by-digit, all-digits}
 use Rattle.field.proofs.digits.spaced.Statement.{statement}
 use Rattle.field.proofs.digits.spaced.Tie as tie
 
@@ -23,6 +23,12 @@ returns-2 c = lone-zero (now (c .before .before .before .before .before .before 
 returns-3 : tie.Need-returns-3
 returns-3 c = led-by-zero (now (c .before .before .before .before .before .before .args .s)) _ (c .before .before .before .before .skip-spaces .ensures) (search needs) (c .before .if2 .taken) (c .if3 .left)
 
+digits-only-requires : tie.Need-digits-only-requires
+digits-only-requires c κs = search needs
+
+returns-4 : tie.Need-returns-4
+returns-4 c = all-digits (now (c .before .before .before .before .before .before .before .args .s)) _ (c .before .before .before .before .before .skip-spaces .ensures) _ (search needs) (c .before .before .if2 .left) (c .before .if4 .taken) (c .digits-only .ensures)
+
 sub-digits-only : tie.Need-sub-digits-only
 sub-digits-only c = search needs
 
@@ -32,11 +38,11 @@ part-digits-only-start c = search needs
 part-digits-only-end : tie.Need-part-digits-only-end
 part-digits-only-end c = search needs
 
-digits-only-requires : tie.Need-digits-only-requires
-digits-only-requires c κs = search needs
+digits-only-requires-2 : tie.Need-digits-only-requires-2
+digits-only-requires-2 c κs = search needs
 
-returns-4 : tie.Need-returns-4
-returns-4 c = led-by-digit (now (c .before .before .before .before .before .before .before .args .s)) _ (c .before .before .before .before .before .skip-spaces .ensures) _ (search needs) (c .before .before .if2 .left) (c .digits-only .ensures)
+returns-5 : tie.Need-returns-5
+returns-5 c = led-by-digit (now (c .before .before .before .before .before .before .before .before .args .s)) _ (c .before .before .before .before .before .before .skip-spaces .ensures) _ (search needs) (c .before .before .before .if2 .left) (c .digits-only2 .ensures)
 
 pub spaced-spec : {M : Type 1} → statement M
 spaced-spec =
@@ -48,8 +54,10 @@ spaced-spec =
     add-if3
     returns-2
     returns-3
+    digits-only-requires
+    returns-4
     sub-digits-only
     part-digits-only-start
     part-digits-only-end
-    digits-only-requires
-    returns-4)
+    digits-only-requires-2
+    returns-5)
