@@ -1,51 +1,69 @@
--- The tag's step by wrapping sums, and the tag of what is left.
-use Prim.Native.Nat.{ℕ, _+_, _-_, _*_, _/_, _%_, _^_, _≤_, _<_}
-use native.Mathlib.Nat.{mod-add-mod, add-comm, mod-eq-of-lt, mod-lt, sub-zero}
+-- The tag by its words and by its last bytes, and the bucket by its upper part.
+use Prim.Native.Nat.{ℕ, zero, suc, _+_, _-_, _*_, _/_, _%_, _^_, _≤_, _<_}
+use native.Mathlib.Nat.{mod-add-mod, mod-lt, add-comm, div-lt-iff-lt-mul, lt-mul-div-succ, lt-of-lt-of-le, le-of-lt}
 use native.Mathlib.Omega.{arith}
-use mathlib.Core.Path.{_≡_, sym, ap, _∙_}
-use mathlib.Core.List.{List}
+use mathlib.Core.Path.{_≡_, ap, _∙_}
+use mathlib.Core.List.{List, [], _∷_}
 use lib.ListN.{length, getD, take, drop, length-drop, drop-of-length-le}
-use lib.Seq.{take-all}
-use Rattle.index.specs.Tags.{tagFrom, byHalves, bucketOf}
+use lib.Seq.{take-all, drop-drop}
+use Rattle.run.specs.Runs.{part}
 use Rattle.run.proofs.Scan.{at-next}
+use Rattle.cell.specs.Cells.{le}
+use Rattle.index.specs.Tags.{more, overWords, overBytes, tagOf, bucketOf}
 
--- a wrapped sum of wrapped numbers
-wrapped : (m x y p q r : ℕ) → r ≡ (x + y) % m → x ≡ p % m → y ≡ q % m → r ≡ (p + q) % m
-wrapped m x y p q r e h k =
-    e ∙ rw (h, k) (mod-add-mod p m (q % m) ∙ ap (λ n. n % m) (add-comm p (q % m)) ∙ mod-add-mod q m p ∙ ap (λ n. n % m) (add-comm q p))
+-- what is added may be cut to its lower 32 bits
+pub more-cut : (h w : ℕ) → more h (w % 2 ^ 32) ≡ more h w
+more-cut h w =
+    ap (λ x. x * 2654435761 % 2 ^ 32)
+    (ap (λ x. x % 2 ^ 32) (add-comm h (w % 2 ^ 32)) ∙ mod-add-mod w (2 ^ 32) h ∙ ap (λ x. x % 2 ^ 32) (add-comm w h))
 
-pub times-37 : (m h b h2 h4 h8 h16 h32 h36 h37 r : ℕ) → h < m → b < m
-    → h2 ≡ (h + h) % m → h4 ≡ (h2 + h2) % m → h8 ≡ (h4 + h4) % m → h16 ≡ (h8 + h8) % m → h32 ≡ (h16 + h16) % m
-    → h36 ≡ (h32 + h4) % m → h37 ≡ (h36 + h) % m → r ≡ (h37 + b) % m → r ≡ (h * 37 + b) % m
-times-37 m h b h2 h4 h8 h16 h32 h36 h37 r l n e2 e4 e8 e16 e32 e36 e37 e =
-    let a : h ≡ h % m = sym (mod-eq-of-lt l) in
-    let z : b ≡ b % m = sym (mod-eq-of-lt n) in
-    let a2 = wrapped m h h h h h2 e2 a a in
-    let a4 = wrapped m h2 h2 (h + h) (h + h) h4 e4 a2 a2 in
-    let a8 = wrapped m h4 h4 _ _ h8 e8 a4 a4 in
-    let a16 = wrapped m h8 h8 _ _ h16 e16 a8 a8 in
-    let a32 = wrapped m h16 h16 _ _ h32 e32 a16 a16 in
-    let a36 = wrapped m h32 h4 _ _ h36 e36 a32 a4 in
-    let a37 = wrapped m h36 h _ _ h37 e37 a36 a in
-    wrapped m h37 b _ _ r e a37 z ∙ ap (λ x. x % m) (omega arith)
+-- word j is taken, and n - (j + 1) are left
+pub word-next : (s : List ℕ) (n j h g : ℕ) → j < n → g ≡ more h (le (part s (4 * j) 4) % 2 ^ 32)
+    → overWords (n - j) h (drop (4 * j) s) ≡ overWords (n - (j + 1)) g (drop (4 * (j + 1)) s)
+word-next s n j h g l e =
+    let left : n - j ≡ suc (n - (j + 1)) = omega arith in
+    let on : 4 * (j + 1) ≡ 4 * j + 4 = omega arith in
+    rw (left, on, e, more-cut, ← drop-drop 4 (4 * j) s)
 
-pub tag-next : (s : List ℕ) (i h g : ℕ) → i < length s → g ≡ (h * 37 + getD s i 0) % 2 ^ 32 → tagFrom h (drop i s) ≡ tagFrom g (drop (i + 1) s)
-tag-next s i h g l e = rw (at-next s i l) (ap (λ x. tagFrom x (drop (i + 1) s)) (sym e))
+pub words-end : (s : List ℕ) (n j h : ℕ) → n ≤ j → overWords (n - j) h (drop (4 * j) s) ≡ h
+words-end s n j h l = let none : n - j ≡ 0 = omega arith in rw none
 
-pub tag-end : (s : List ℕ) (i h : ℕ) → length s ≤ i → tagFrom h (drop i s) ≡ h
-tag-end s i h l = rw (drop-of-length-le s l)
+pub byte-next : (s : List ℕ) (i h g : ℕ) → i < length s → g ≡ more h (getD s i 0) → overBytes h (drop i s) ≡ overBytes g (drop (i + 1) s)
+byte-next s i h g l e = rw (at-next s i l, e)
 
--- the parts as they are lent
-pub halves-so : (tag : List ℕ → ℕ) (s : List ℕ) {a b r : ℕ} → a ≡ tag (take (length s / 2 - 0) s) → b ≡ tag (take (length s - length s / 2) (drop (length s / 2) s))
-    → r ≡ (a * 37 + b) % 2 ^ 32 → r ≡ byHalves tag s
-halves-so tag s e f g =
-    let rest : take (length s - length s / 2) (drop (length s / 2) s) ≡ drop (length s / 2) s = take-all (length s - length s / 2) (drop (length s / 2) s) (rw length-drop (omega arith)) in
-    g ∙ rw (e, f, rest, sub-zero)
+pub bytes-end : (s : List ℕ) (i h : ℕ) → length s ≤ i → overBytes h (drop i s) ≡ h
+bytes-end s i h l = rw (drop-of-length-le s l)
 
-pub bucket-by : (m h b : ℕ) (k : List ℕ) → h ≡ byHalves (byHalves (tagFrom 0)) k → b ≡ h % m → b ≡ bucketOf m k
+-- the bytes behind the words, as they are lent
+pub tag-so : (s : List ℕ) (h r : ℕ) → h ≡ overWords (length s / 4) 0 s → r ≡ overBytes h (take (length s - 4 * (length s / 4)) (drop (4 * (length s / 4)) s)) → r ≡ tagOf s
+tag-so s h r e q =
+    let rest : take (length s - 4 * (length s / 4)) (drop (4 * (length s / 4)) s) ≡ drop (4 * (length s / 4)) s
+    = take-all (length s - 4 * (length s / 4)) (drop (4 * (length s / 4)) s) (rw length-drop (omega arith)) in
+    q ∙ rw (rest, e)
+
+pub bucket-by : (m h b : ℕ) (k : List ℕ) → h ≡ tagOf k → b ≡ h / (2 ^ 32 / m + 1) → b ≡ bucketOf m k
 unfolding bucketOf
-bucket-by m h b k e q = q ∙ ap (λ x. x % m) e
+bucket-by m h b k e q = q ∙ ap (λ x. x / (2 ^ 32 / m + 1)) e
+
+-- a tag is a remainder by 2 to the 32
+more-below : (h b : ℕ) → more h b < 2 ^ 32
+more-below h b = mod-lt ((h + b) % 2 ^ 32 * 2654435761) (omega arith)
+
+words-below : (n h : ℕ) (s : List ℕ) → h < 2 ^ 32 → overWords n h s < 2 ^ 32
+words-below zero h s l = l
+words-below (suc n) h s l = words-below n (more h (le (take 4 s))) (drop 4 s) (more-below h (le (take 4 s)))
+
+bytes-below : (h : ℕ) (s : List ℕ) → h < 2 ^ 32 → overBytes h s < 2 ^ 32
+bytes-below h [] l = l
+bytes-below h (b ∷ s) l = bytes-below (more h b) s (more-below h b)
+
+tag-below : (s : List ℕ) → tagOf s < 2 ^ 32
+tag-below s = bytes-below (overWords (length s / 4) 0 s) (drop (4 * (length s / 4)) s) (words-below (length s / 4) 0 s (omega arith))
+
+-- one of m parts of the tags
+part-under : (m t : ℕ) → 1 ≤ m → t < 2 ^ 32 → t / (2 ^ 32 / m + 1) < m
+part-under m t l h = div-lt-iff-lt-mul {k = 2 ^ 32 / m + 1} (omega arith) .1 (lt-of-lt-of-le h (le-of-lt (lt-mul-div-succ (2 ^ 32) l)))
 
 pub bucket-under : (m b : ℕ) (k : List ℕ) → 1 ≤ m → b ≡ bucketOf m k → b < m
 unfolding bucketOf
-bucket-under m b k l q = rw q (mod-lt (byHalves (byHalves (tagFrom 0)) k) {m = m} l)
+bucket-under m b k l q = rw q (part-under m (tagOf k) l (tag-below k))

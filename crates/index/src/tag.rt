@@ -1,59 +1,75 @@
 // The bucket of a key, by a tag of its bytes.
-ghost use Prim.Native.Nat.{_+_, _*_, _≤_, _%_, _^_};
+ghost use Prim.Native.Nat.{_+_, _*_, _/_, _≤_, _%_, _^_};
 ghost use mathlib.Core.Path.{_≡_};
-ghost use Rattle.index.specs.Tags.{tagFrom, byHalves, bucketOf};
+ghost use lib.ListN.{length};
+ghost use Rattle.run.specs.Runs.{part};
+ghost use Rattle.cell.specs.Cells.{le};
+ghost use Rattle.index.specs.Tags.{bucketOf, more as Tags·more, overBytes, overWords, tagOf};
 use crate::USUAL;
 use std::num::wrapping_add_u32;
 
-// 37 times a tag, by sums that wrap, and a byte or another tag.
+// An odd number whose bits are mixed: times it, a bit counts for itself and for those above it.
+const SPREAD: u64 = 2_654_435_761;
+
+// One more than the largest tag.
+const TAGS: u64 = 4_294_967_296;
+
+// A sum that wraps, spread.
 fn more(h: u32, b: u32) -> u32
-    ensures { λ r. ⌜ r ≡ (h * 37 + b) % 2 ^ 32 ⌝ }
+    ensures { λ r. ⌜ r ≡ Tags·more h b ⌝ }
 {
-    let h2 = wrapping_add_u32(h, h);
-    let h4 = wrapping_add_u32(h2, h2);
-    let h8 = wrapping_add_u32(h4, h4);
-    let h16 = wrapping_add_u32(h8, h8);
-    let h32 = wrapping_add_u32(h16, h16);
-    let h36 = wrapping_add_u32(h32, h4);
-    let h37 = wrapping_add_u32(h36, h);
-    wrapping_add_u32(h37, b)
+    (wrapping_add_u32(h, b) as u64 * SPREAD % TAGS) as u32
 }
 
-fn tag(key: &[u8]) -> u32
-    ensures { λ r. ⌜ r ≡ tagFrom 0 (now (key .entry)) ⌝ }
+fn word(key: &[u8], at: usize) -> u32
+    requires { ⌜ at + 4 ≤ length (now key) ⌝ }
+    ensures { λ r. ⌜ r ≡ le (part (now (key .entry)) at 4) % 2 ^ 32 ⌝ }
+{
+    (cell::get(key, at, 4) % TAGS) as u32
+}
+
+// Four bytes at a time, which the compiler loads as one number.
+fn over_words(key: &[u8], words: usize) -> u32
+    requires { ⌜ 4 * words ≤ length (now key) ⌝ }
+    ensures { λ r. ⌜ r ≡ overWords words 0 (now (key .entry)) ⌝ }
 {
     let mut h: u32 = 0;
-    let mut i = 0;
-    while i < key.len() {
-        h = more(h, key[i] as u32);
-        i += 1;
+    let mut j = 0;
+    while j < words {
+        h = more(h, word(key, 4 * j));
+        j += 1;
     }
     h
 }
 
-// The tags of the halves, as one. Neither waits for the sums of the other: a processor works them out side by side.
-fn by_halves(key: &[u8]) -> u32
-    ensures { λ r. ⌜ r ≡ byHalves (tagFrom 0) (now (key .entry)) ⌝ }
+fn over_bytes(h: u32, rest: &[u8]) -> u32
+    ensures { λ r. ⌜ r ≡ overBytes h (now (rest .entry)) ⌝ }
 {
-    let half = key.len() / 2;
-    more(tag(&key[0..half]), tag(&key[half..]))
+    let mut g = h;
+    let mut i = 0;
+    while i < rest.len() {
+        g = more(g, rest[i] as u32);
+        i += 1;
+    }
+    g
 }
 
-fn by_quarters(key: &[u8]) -> u32
-    ensures { λ r. ⌜ r ≡ byHalves (byHalves (tagFrom 0)) (now (key .entry)) ⌝ }
+fn tag(key: &[u8]) -> u32
+    ensures { λ r. ⌜ r ≡ tagOf (now (key .entry)) ⌝ }
 {
-    let half = key.len() / 2;
-    more(by_halves(&key[0..half]), by_halves(&key[half..]))
+    let words = key.len() / 4;
+    over_bytes(over_words(key, words), &key[4 * words..])
 }
 
+// By the upper part of the tag, where every bit of the key counts.
 pub fn bucket(key: &[u8], m: usize) -> usize
     requires { ⌜ 1 ≤ m ⌝ }
     ensures { λ r. ⌜ r ≡ bucketOf m (now (key .entry)) ⌝ }
 {
-    let h = by_quarters(key) as usize;
+    let h = tag(key) as usize;
     // The compiler knows this number: no division.
     if m == USUAL {
-        return h % USUAL;
+        return h / (TAGS as usize / USUAL + 1);
     }
-    h % m
+    h / (TAGS as usize / m + 1)
 }

@@ -1,61 +1,39 @@
--- `index::tag::tag` meets its contract: the tag so far, and the bytes left, give the whole tag.
-use Prim.Native.Nat.{_-_, _≤_}
-use mathlib.Core.Path.{_≡_, sym, _∙_}
-use borrow.Author.Needs.{needs}
+-- `index::tag::tag` meets its contract.
 use denote.Ref.{now}
-use lib.ListN.{length, drop}
-use Rattle.index.specs.Tags.{tagFrom}
-use Rattle.index.proofs.Tagging.{tag-next, tag-end}
+use borrow.Author.Needs.{needs}
+use Rattle.index.proofs.Tagging.{tag-so}
 use Rattle.index.proofs.tag.tag.Statement.{statement}
 use Rattle.index.proofs.tag.tag.Tie as tie
 
-abbrev Inv-loop : tie.InvT-loop
-Inv-loop key h₀ i₀ h i = (i ≤ length key) × (tagFrom 0 key ≡ tagFrom h (drop i key))
+over-words-requires : tie.Need-over-words-requires
+over-words-requires c κs = search needs
 
-abbrev μ-loop : tie.MeasureT-loop
-μ-loop key h₀ i₀ h i = length key - i
+mul-over-bytes : tie.Need-mul-over-bytes
+mul-over-bytes c = search needs
 
-loop-holds : tie.Need-loop-holds Inv-loop μ-loop
-loop-holds c = search needs
+sub-over-bytes : tie.Need-sub-over-bytes
+sub-over-bytes c = search needs
 
-shared-slice-read-more : tie.Need-shared-slice-read-more Inv-loop μ-loop
-shared-slice-read-more c = search needs
+part-over-bytes-start : tie.Need-part-over-bytes-start
+part-over-bytes-start c = search needs
 
-cast-more : tie.Need-cast-more Inv-loop μ-loop
-cast-more c = search (needs, c .shared-slice-known2 .given (c .before .before .loop .i))
+part-over-bytes-end : tie.Need-part-over-bytes-end
+part-over-bytes-end c = search needs
 
-more-requires : tie.Need-more-requires Inv-loop μ-loop
-more-requires c κs = search needs
+over-bytes-requires : tie.Need-over-bytes-requires
+over-bytes-requires c κs = search needs
 
-add-i : tie.Need-add-i Inv-loop μ-loop
-add-i c = search needs
-
-loop-less : tie.Need-loop-less Inv-loop μ-loop
-loop-less c = search needs
-
-loop-again : tie.Need-loop-again Inv-loop μ-loop
-loop-again c =
-    let l = c .before .before .before .loop in
-    let a = c .before .before .before .before .before .args in
-    (search needs, l .inv .1 ∙ tag-next (now (a .key)) (l .i) (l .h) (c .more .result) (search needs) (c .more .ensures))
-
-returns : tie.Need-returns Inv-loop μ-loop
-returns c =
-    let l = c .before .loop in
-    let a = c .before .before .before .args in
-    sym (l .inv .1 ∙ tag-end (now (a .key)) (l .i) (l .h) (search needs))
+returns : tie.Need-returns
+returns c = tag-so (now (c .before .before .before .before .args .key)) (c .before .before .over-words .result) (c .over-bytes .result) (c .before .before .over-words .ensures) (c .over-bytes .ensures)
 
 pub tag-spec : {M : Type 1} → statement M
 tag-spec =
     tie.close
     (tie.spec
-    Inv-loop
-    μ-loop
-    loop-holds
-    shared-slice-read-more
-    cast-more
-    more-requires
-    add-i
-    loop-less
-    loop-again
+    over-words-requires
+    mul-over-bytes
+    sub-over-bytes
+    part-over-bytes-start
+    part-over-bytes-end
+    over-bytes-requires
     returns)
