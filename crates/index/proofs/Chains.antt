@@ -16,20 +16,14 @@ use Rattle.index.specs.Searches.{firstOf, hasKey, earliest}
 use Rattle.index.specs.Tags.{bucketOf}
 use Rattle.index.specs.Indexes.{latest, bucketIn, Indexed}
 use Rattle.run.proofs.Sameness.{same-true}
+use Rattle.index.proofs.Firsts.{first-past}
 
--- ---- one place or else another, and a number that is passed over
+-- ---- one place or else another
 
 or-or : (a : ℕ) (t : Bool) (i best : ℕ) → orElse (orElse a (cond t (suc i) 0)) best ≡ orElse a (cond t (suc i) best)
 or-or zero true i best = refl
 or-or zero false i best = refl
 or-or (suc a) t i best = refl
-
-first-past : (p : ℕ → Bool) (n : ℕ) → p n ≡ false → firstOf p (suc n) ≡ firstOf p n
-first-past p n q = go (firstOf p n) refl
-  where
-    go : (a : ℕ) → firstOf p n ≡ a → firstOf p (suc n) ≡ firstOf p n
-    go zero e = rw (q, e)
-    go (suc a) e = rw (q, e)
 
 -- ---- the latest record of a bucket
 

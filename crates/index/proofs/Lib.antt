@@ -1,5 +1,7 @@
 -- The tag by sums that wrap, and the bucket
 pub mod Tagging
+-- The first record that a test holds of
+pub mod Firsts
 -- A walk down a chain finds the earliest record
 pub mod Chains
 -- The empty index, and one record more

@@ -3,12 +3,14 @@
 mod building;
 mod chain;
 mod entry;
+mod scanning;
 mod tag;
 
 pub use building::build;
 pub use chain::find;
 pub use entry::append;
 pub use entry::enter;
+pub use scanning::scan;
 
 // The buckets of an index of 512 keys, four for a key: by a number known here the remainder of a tag costs no division.
 pub const USUAL: usize = 2048;
