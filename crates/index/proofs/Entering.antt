@@ -11,8 +11,6 @@ use lib.ListN.{length, getD, set, replicate, length-set, length-replicate, getD-
 use lib.Seq.{getD-set-same, getD-set-other}
 use Rattle.section.specs.Sections.{recordOf, Holds}
 use Rattle.section.specs.declared.Section.{Section}
-use Rattle.index.specs.Searches.{earliest}
-use Rattle.index.specs.Tags.{bucketOf}
 use Rattle.index.specs.Indexes.{latest, bucketIn, Indexed, Enters, Entered}
 use Rattle.index.proofs.Tagging.{bucket-under}
 
@@ -65,17 +63,14 @@ module _ {keys : Section} {s : List ℕ} {n : ℕ} {heads nexts : List ℕ} (x :
         chains = λ i h. rw long (new-nexts i h);
       }
 
--- `index::entry::enter_key` returns: the key was looked up, then the record was linked
+-- `index::entry::enter` returns: the record was linked into its key's bucket
 pub entered : {keys : Section} {s : List ℕ} {n : ℕ} {heads nexts : List ℕ} → Indexed keys s n heads nexts → Enters keys s n nexts
-    → (key : List ℕ) → key ≡ recordOf keys s n → {b : ℕ} → b ≡ bucketOf (length heads) key → {found : ℕ} → found ≡ earliest keys s n key
-    → {heads′ nexts′ : List ℕ} → heads′ ≡ set heads b (n + 1) → nexts′ ≡ set nexts n (getD heads b 0)
-    → Entered keys s n heads nexts found heads′ nexts′
-entered {keys} {s} {n} {heads} {nexts} x y key e {b} q f h k =
-    let under = bucket-under (length heads) b key (x .some) q in
-    let own : b ≡ bucketOf (length heads) (recordOf keys s n) = q ∙ ap (bucketOf (length heads)) e in
+    → {b : ℕ} → b ≡ bucketIn keys s (length heads) n → {heads′ nexts′ : List ℕ} → heads′ ≡ set heads b (n + 1) → nexts′ ≡ set nexts n (getD heads b 0)
+    → Entered keys s n heads nexts heads′ nexts′
+entered {keys} {s} {n} {heads} {nexts} x y {b} q h k =
+    let under = bucket-under (length heads) b (recordOf keys s n) (x .some) q in
     record {
-      before = f ∙ ap (earliest keys s n) e;
-      indexed = rw (h, k) (index-next x b own under (y .room) (y .holds));
+      indexed = rw (h, k) (index-next x b q under (y .room) (y .holds));
       heads-long = rw h (length-set heads b (n + 1));
       nexts-long = rw k (length-set nexts n (getD heads b 0));
     }

@@ -10,7 +10,9 @@ pub mod Entering
 pub mod Keeping
 -- Heads set to 0 one after another
 pub mod Clearing
--- The index built record by record, and whether all keys differ
+-- The index built record by record
 pub mod Passing
 -- What a lookup and distinct keys mean, in words
 pub mod Meanings
+-- A record whose key leads to it is the earliest with that key
+pub mod Repeats

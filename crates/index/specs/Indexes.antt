@@ -1,14 +1,13 @@
 -- 02, ticket 11: an index beside a section. The records of a bucket are a chain, the latest first; every entry is a function of the keys.
 use Prim.Native.Nat.{ℕ, zero, suc, _+_, _≤_, _<_}
 use mathlib.Core.Path.{_≡_}
-use mathlib.Core.Bool.{Bool, cond}
+use mathlib.Core.Bool.{cond}
 use mathlib.Core.List.{List}
 use lib.Dec.{eqb}
 use lib.ListN.{length, getD}
 use lib.Seq.{sets}
 use Rattle.section.specs.Sections.{startOf, recordOf, Holds, KeyOf}
 use Rattle.section.specs.declared.Section.{Section}
-use Rattle.index.specs.Searches.{earliest, allDistinct}
 use Rattle.index.specs.Tags.{bucketOf}
 
 -- the bucket of record i, of m
@@ -36,8 +35,7 @@ pub record Enters (keys : Section) (s : List ℕ) (n : ℕ) (nexts : List ℕ) :
   pub room : n < length nexts
   pub small : n < 65535
 
-pub record Entered (keys : Section) (s : List ℕ) (n : ℕ) (heads₀ nexts₀ : List ℕ) (found : ℕ) (heads nexts : List ℕ) : Type 0 where
-  pub before : found ≡ earliest keys s n (recordOf keys s n)
+pub record Entered (keys : Section) (s : List ℕ) (n : ℕ) (heads₀ nexts₀ heads nexts : List ℕ) : Type 0 where
   pub indexed : Indexed keys s (n + 1) heads nexts
   pub heads-long : length heads ≡ length heads₀
   pub nexts-long : length nexts ≡ length nexts₀
@@ -65,8 +63,7 @@ pub record Builds (keys : Section) (s : List ℕ) (n : ℕ) (heads nexts : List 
   pub room : n ≤ length nexts
   pub small : n ≤ 65535
 
-pub record Built (keys : Section) (s : List ℕ) (n : ℕ) (heads₀ nexts₀ : List ℕ) (distinct : Bool) (heads nexts : List ℕ) : Type 0 where
-  pub said : distinct ≡ allDistinct keys s n
+pub record Built (keys : Section) (s : List ℕ) (n : ℕ) (heads₀ nexts₀ heads nexts : List ℕ) : Type 0 where
   pub indexed : Indexed keys s n heads nexts
   pub heads-long : length heads ≡ length heads₀
   pub nexts-long : length nexts ≡ length nexts₀

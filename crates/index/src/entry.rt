@@ -2,9 +2,7 @@
 ghost use Prim.Native.Nat.{_+_, _<_};
 ghost use mathlib.Core.Path.{_≡_};
 ghost use lib.ListN.{length, getD, set};
-ghost use Rattle.section.specs.Sections.{recordOf};
 ghost use Rattle.index.specs.Indexes.{Indexed, Enters, Entered, Appends, Appended};
-use crate::chain;
 use crate::tag;
 use section::Section;
 
@@ -20,35 +18,16 @@ fn link(heads: &mut [u16], nexts: &mut [u16], n: usize, b: usize)
     heads[b] = (n + 1) as u16;
 }
 
-// Record n, whose key is lent beside the table. The key is looked up on the way: that it stood before is then known at no cost of its own.
-fn enter_key(
-    t: &[u8],
-    keys: Section,
-    n: usize,
-    heads: &mut [u16],
-    nexts: &mut [u16],
-    key: &[u8],
-) -> usize
+// Record n is entered by its key, at the same cost whatever the keys of the others are.
+pub fn enter(t: &[u8], keys: Section, n: usize, heads: &mut [u16], nexts: &mut [u16])
     requires { ⌜ Indexed keys (now t) n (now heads) (now nexts) ⌝ }
     requires { ⌜ Enters keys (now t) n (now nexts) ⌝ }
-    requires { ⌜ now key ≡ recordOf keys (now t) n ⌝ }
-    ensures { λ r. ⌜ Entered keys (now (t .entry)) n (now (heads .entry)) (now (nexts .entry)) r (now (heads .exit)) (now (nexts .exit)) ⌝ }
-{
-    let b = tag::bucket(key, heads.len());
-    let found = chain::walk(t, keys, n, heads, nexts, b, key);
-    link(heads, nexts, n, b);
-    found
-}
-
-// Record n is entered; the answer is one more than the earliest record before it that has its key, or 0.
-pub fn enter(t: &[u8], keys: Section, n: usize, heads: &mut [u16], nexts: &mut [u16]) -> usize
-    requires { ⌜ Indexed keys (now t) n (now heads) (now nexts) ⌝ }
-    requires { ⌜ Enters keys (now t) n (now nexts) ⌝ }
-    ensures { λ r. ⌜ Entered keys (now (t .entry)) n (now (heads .entry)) (now (nexts .entry)) r (now (heads .exit)) (now (nexts .exit)) ⌝ }
+    ensures { λ _. ⌜ Entered keys (now (t .entry)) n (now (heads .entry)) (now (nexts .entry)) (now (heads .exit)) (now (nexts .exit)) ⌝ }
 {
     let at = section::start(t, keys, n);
     let end = at + keys.width;
-    enter_key(t, keys, n, heads, nexts, &t[at..end])
+    let b = tag::bucket(&t[at..end], heads.len());
+    link(heads, nexts, n, b);
 }
 
 // Record n is stored, and entered by its key.

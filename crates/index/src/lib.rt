@@ -2,12 +2,14 @@
 // Keys that all fall into one bucket make a chain of all records, and a lookup then walks them all.
 mod building;
 mod chain;
+mod differing;
 mod entry;
 mod scanning;
 mod tag;
 
 pub use building::build;
 pub use chain::find;
+pub use differing::distinct;
 pub use entry::append;
 pub use entry::enter;
 pub use scanning::scan;

@@ -4,7 +4,7 @@ use native.Mathlib.Nat.{mul-le-mul-left, mul-add}
 use native.Mathlib.Omega.{arith}
 use mathlib.Core.Path.{_≡_, sym, ap, _∙_}
 use mathlib.Core.List.{List}
-use lib.ListN.{length}
+use lib.ListN.{length, take, drop}
 use lib.Seq.{sets, length-sets}
 use Rattle.run.specs.Runs.{part}
 use Rattle.section.specs.Sections.{startOf, recordOf, Inside, Holds, KeyOf}
@@ -23,6 +23,10 @@ module _ (c : Section) where
 
   pub length-record : (s : List ℕ) (i : ℕ) → Inside c s i → length (recordOf c s i) ≡ c .width
   length-record s i h = length-part s (startOf c i) (c .width) h
+
+  -- a record as it is lent, from where it begins up to its end
+  pub record-lent : (s : List ℕ) (i at : ℕ) → at ≡ startOf c i → take (at + c .width - at) (drop at s) ≡ recordOf c s i
+  record-lent s i at e = let wide : at + c .width - at ≡ c .width = omega arith in rw (wide, e)
 
   pub holds-fewer : {s : List ℕ} {n : ℕ} → Holds c s n → (i : ℕ) → i ≤ n → Holds c s i
   holds-fewer h i l = record { apart = h .apart; inside = λ j k. h .inside j (omega arith) }

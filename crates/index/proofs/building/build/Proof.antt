@@ -1,4 +1,4 @@
--- `index::building::build` meets its contract: the records passed are entered, and what was said of them is whether they are distinct.
+-- `index::building::build` meets its contract: the records passed are entered.
 use Prim.Native.Nat.{_-_}
 use native.Mathlib.Omega.{arith}
 use borrow.Author.Needs.{needs}
@@ -7,10 +7,10 @@ use Rattle.index.proofs.building.build.Statement.{statement}
 use Rattle.index.proofs.building.build.Tie as tie
 
 abbrev Inv-loop : tie.InvT-loop
-Inv-loop t keys n heads₀ nexts₀ distinct₀ i₀ heads nexts distinct i = Building keys t n heads₀ nexts₀ heads nexts distinct i
+Inv-loop t keys n heads₀ nexts₀ i₀ heads nexts i = Building keys t n heads₀ nexts₀ heads nexts i
 
 abbrev μ-loop : tie.MeasureT-loop
-μ-loop t keys n heads₀ nexts₀ distinct₀ i₀ heads nexts distinct i = n - i
+μ-loop t keys n heads₀ nexts₀ i₀ heads nexts i = n - i
 
 clear-requires : tie.Need-clear-requires Inv-loop μ-loop
 clear-requires c κs = search needs

@@ -1,9 +1,14 @@
--- `index::entry::enter` meets its contract: the key of record n is lent on.
-use Prim.Native.Nat.{_+_, _-_}
-use mathlib.Core.Path.{_≡_}
+-- `index::entry::enter` meets its contract: the record is linked into the bucket of its key, which is lent.
 use native.Mathlib.Omega.{arith}
-use Rattle.section.specs.Sections.{startOf, Inside}
+use mathlib.Core.Path.{_≡_, ap, _∙_}
 use denote.Ref.{now}
+use lib.ListN.{length}
+use Rattle.section.specs.Sections.{Inside}
+use Rattle.section.proofs.Places.{record-lent}
+use Rattle.index.specs.Tags.{bucketOf}
+use Rattle.index.specs.Indexes.{bucketIn}
+use Rattle.index.proofs.Tagging.{bucket-under}
+use Rattle.index.proofs.Entering.{entered}
 use borrow.Author.Needs.{needs}
 use Rattle.index.proofs.entry.enter.Statement.{statement}
 use Rattle.index.proofs.entry.enter.Tie as tie
@@ -18,23 +23,31 @@ start-requires c κs = there (c .before .before .before)
 add-end : tie.Need-add-end
 add-end c = search (needs, there (c .before .before .before .before .before))
 
-sub-enter-key : tie.Need-sub-enter-key
-sub-enter-key c = search needs
+sub-bucket : tie.Need-sub-bucket
+sub-bucket c = search needs
 
-part-enter-key-start : tie.Need-part-enter-key-start
-part-enter-key-start c = search needs
+part-bucket-start : tie.Need-part-bucket-start
+part-bucket-start c = search needs
 
-part-enter-key-end : tie.Need-part-enter-key-end
-part-enter-key-end c = search (needs, there (c .before .before .before .before .before .before .before))
+part-bucket-end : tie.Need-part-bucket-end
+part-bucket-end c = search (needs, there (c .before .before .before .before .before))
 
-enter-key-requires : tie.Need-enter-key-requires
-enter-key-requires c κs =
-    let a = c .before .before .before .before .before .before .before .before .args in
-    let x = c .before .before .before .before .before .before .before .before .pre in
-    let at = c .before .before .before .before .start .result in
-    let long : at + a .keys .width - at ≡ a .keys .width = omega arith in
-    let place : at ≡ startOf (a .keys) (a .n) = c .before .before .before .before .start .ensures in
-    (x .0, (x .1, rw (long, place)))
+bucket-requires : tie.Need-bucket-requires
+bucket-requires c κs = search needs
+
+abbrev start : tie.After-bucket → tie.Start
+start c = c .before .before .before .before .before .before .before
+
+-- the bucket is that of record n
+own : (c : tie.After-bucket) → c .bucket .result ≡ bucketIn (start c .args .keys) (now (start c .args .t)) (length (now (start c .args .heads))) (start c .args .n)
+own c =
+    let a = start c .args in
+    c .bucket .ensures ∙ ap (bucketOf (length (now (a .heads)))) (record-lent (a .keys) (now (a .t)) (a .n) (c .before .before .before .start .result) (c .before .before .before .start .ensures))
+
+link-requires : tie.Need-link-requires
+link-requires c κs =
+    let x = start (c .before .before) .pre in
+    (bucket-under _ _ _ (x .0 .some) (own (c .before .before)), (x .1 .room, x .1 .small))
 
 same-length : tie.Need-same-length
 same-length c = search needs
@@ -43,7 +56,11 @@ same-length-2 : tie.Need-same-length-2
 same-length-2 c = search needs
 
 returns : tie.Need-returns
-returns c = search needs
+returns c =
+    let asked = c .before .before .before .before .before .before .before in
+    let x = start asked .pre in
+    let linked = c .before .before .before .before .link .ensures in
+    entered (x .0) (x .1) (own asked) (linked .0) (linked .1)
 
 pub enter-spec : {M : Type 1} → statement M
 enter-spec =
@@ -51,10 +68,11 @@ enter-spec =
     (tie.spec
     start-requires
     add-end
-    sub-enter-key
-    part-enter-key-start
-    part-enter-key-end
-    enter-key-requires
+    sub-bucket
+    part-bucket-start
+    part-bucket-end
+    bucket-requires
+    link-requires
     same-length
     same-length-2
     returns)
