@@ -1,4 +1,4 @@
--- The walk down a chain: no record of its bucket is passed over, so the last hit is the earliest.
+-- The walk down a chain: no record of its bucket is passed over, so the last hit is the earliest once the chain ends.
 use Prim.Native.Nat.{ℕ, zero, suc, _-_, _≤_, _<_}
 use native.Mathlib.Nat.{le-refl}
 use native.Mathlib.Omega.{arith}
@@ -14,7 +14,9 @@ use Rattle.run.specs.Found.{orElse}
 use Rattle.run.proofs.Found.{or-none}
 use Rattle.index.specs.Searches.{firstOf, hasKey, earliest}
 use Rattle.index.specs.Tags.{bucketOf}
-use Rattle.index.specs.Indexes.{latest, bucketIn, Indexed}
+use Rattle.index.specs.Indexes.{latest, bucketIn, Indexed, Answers}
+use Rattle.index.specs.declared.Sought.{Sought}
+use Rattle.index.specs.declared.Sought.the-variants.{Found}
 use Rattle.run.proofs.Sameness.{same-true}
 use Rattle.index.proofs.Firsts.{first-past}
 
@@ -108,3 +110,7 @@ module _ (keys : Section) (s : List ℕ) (n : ℕ) (heads nexts key : List ℕ) 
 
   pub walk-end : {best at : ℕ} → Walked best at → at ≤ 0 → best ≡ earliest keys s n key
   walk-end {best} {at} w l = let none : at ≡ 0 = omega arith in sym (w .kept ∙ rw none)
+
+-- what a walk that came to the end of its chain answers
+pub walk-found : (k r : ℕ) (x : Sought) → Answers k x → x ≡ Found r → r ≡ k
+walk-found k r x a e = rw e at a

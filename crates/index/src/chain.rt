@@ -3,12 +3,17 @@ ghost use mathlib.Core.Path.{_≡_};
 ghost use lib.ListN.{length};
 ghost use Rattle.index.specs.Searches.{earliest};
 ghost use Rattle.index.specs.Tags.{bucketOf};
-ghost use Rattle.index.specs.Indexes.{Indexed};
+ghost use Rattle.index.specs.Indexes.{Indexed, Answers};
+use crate::Sought;
+use crate::scanning;
 use crate::tag;
 use section::Section;
 
-// Down the chain of bucket b, the key's own. It goes to the end, from later records to earlier ones, so the last hit is the earliest.
-pub fn walk(
+// How far down a chain is walked. By a good tag it is far shorter; where bad luck or malice made it longer, a scan is the cheaper way to the earliest.
+const LINKS: usize = 16;
+
+// Down the chain of bucket b, the key's own. It goes from later records to earlier ones, so the last hit is the earliest once the chain ends.
+fn walk(
     t: &[u8],
     keys: Section,
     n: usize,
@@ -16,22 +21,27 @@ pub fn walk(
     nexts: &[u16],
     b: usize,
     key: &[u8],
-) -> usize
+) -> Sought
     requires { ⌜ Indexed keys (now t) n (now heads) (now nexts) ⌝ }
     requires { ⌜ length (now key) ≡ keys .width ⌝ }
     requires { ⌜ b ≡ bucketOf (length (now heads)) (now key) ⌝ }
-    ensures { λ r. ⌜ r ≡ earliest keys (now (t .entry)) n (now (key .entry)) ⌝ }
+    ensures { λ r. ⌜ Answers (earliest keys (now (t .entry)) n (now (key .entry))) r ⌝ }
 {
     let mut best: usize = 0;
     let mut at = heads[b] as usize;
+    let mut left = LINKS;
     while 0 < at {
+        if left == 0 {
+            return Sought::Long;
+        }
+        left -= 1;
         let i = at - 1;
         if section::same(t, keys, i, key) {
             best = at;
         }
         at = nexts[i] as usize;
     }
-    best
+    Sought::Found(best)
 }
 
 // One more than the earliest of the first n records with the key, or 0.
@@ -40,5 +50,9 @@ pub fn find(t: &[u8], keys: Section, n: usize, heads: &[u16], nexts: &[u16], key
     requires { ⌜ length (now key) ≡ keys .width ⌝ }
     ensures { λ r. ⌜ r ≡ earliest keys (now (t .entry)) n (now (key .entry)) ⌝ }
 {
-    walk(t, keys, n, heads, nexts, tag::bucket(key, heads.len()), key)
+    let sought = walk(t, keys, n, heads, nexts, tag::bucket(key, heads.len()), key);
+    match sought {
+        Sought::Found(k) => k,
+        Sought::Long => scanning::scan(t, keys, n, key),
+    }
 }

@@ -1,5 +1,5 @@
 // The earliest record with a key, by an index beside the records: for each bucket the latest of its records, and for each record the one before it in its bucket.
-// Keys that all fall into one bucket make a chain of all records, and a lookup then walks them all.
+// A lookup walks a short way down its chain, and goes over to a scan where that does not end it: keys that all fall into one bucket cost no more than the scan.
 mod building;
 mod chain;
 mod differing;
@@ -16,3 +16,9 @@ pub use scanning::scan;
 
 // The buckets of an index of 512 keys, four for a key: by a number known here the remainder of a tag costs no division.
 pub const USUAL: usize = 2048;
+
+// What a walk found: one more than the earliest record with the key, or 0; or a chain too long to walk.
+pub(crate) enum Sought {
+    Found(usize),
+    Long,
+}
