@@ -2,16 +2,19 @@
 use Prim.Native.Nat.{ℕ, _+_, _-_, _≤_}
 use native.Mathlib.Omega.{arith}
 use mathlib.Core.Path.{_≡_, refl, sym, ap, _∙_}
-use mathlib.Core.Bool.{Bool, true, false, not, _&&_, _||_, true≢false}
+use mathlib.Core.Bool.{Bool, true, false, _||_, and-eq-true-iff}
 use mathlib.Core.List.{List, [], _∷_, _++_, append-assoc, append-nil}
-use borrow.Author.Tests.{eqb-false, ne-eqb}
-use lib.Dec.{eqb}
+use borrow.Author.Tests.{eqb-false, leb-true, ne-eqb}
+use lib.Dec.{eqb, leb}
 use lib.ListN.{length, getD, take, drop, length-drop, take-append-drop}
 use lib.Seq.{drop-drop, length-take-le}
-use Rattle.run.specs.Runs.{member}
+use Rattle.run.specs.Runs.{all, member}
+use Rattle.field.specs.Byte.{isOf}
+use Rattle.field.specs.declared.Class.the-variants.{Printable}
 use Rattle.piece.specs.Cuts.{Ended, Unended}
 use Rattle.piece.specs.Pieces.{joinFirst, pieces, pieceLength}
-use Rattle.piece.proofs.Lengths.{ends-behind}
+use Rattle.piece.specs.Promises.{Plain}
+use Rattle.piece.proofs.Lengths.{goes-on, ends-behind}
 
 -- ---- a run without LF
 
@@ -58,19 +61,27 @@ runs-on s i j h k e =
     ap (λ (x : List ℕ). i + pieceLength x) (sym (take-append-drop (j - i) (drop i s)))
     ∙ rw (begun-length (take (j - i) (drop i s)) (drop (j - i) (drop i s)) e, l, drop-drop (j - i) i s, z) (omega arith)
 
--- two runs without LF and an LF behind them, as `is_usual` finds them
-pub usual : (s : List ℕ) (at : ℕ) (a b : Bool) → at ≤ length s → 140 ≤ length s - at → getD s (at + 139) 0 ≡ 10
-    → a ≡ member 10 (take (at + 128 - at) (drop at s)) → b ≡ member 10 (take (at + 139 - (at + 128)) (drop (at + 128) s))
-    → (not a && not b) ≡ true → pieceLength (drop at s) ≡ 140
-usual s at true b h l e p q t = absurd (true≢false (sym t))
-usual s at false true h l e p q t = absurd (true≢false (sym t))
-usual s at false false h l e p q t =
+-- an LF is not printable
+none-printable : (p : List ℕ) → all (isOf Printable) p ≡ true → member 10 p ≡ false
+none-printable [] e = refl
+none-printable (b ∷ p) e =
+    let both = and-eq-true-iff (isOf Printable b) (all (isOf Printable) p) .0 e in
+    let low = leb-true 32 b (and-eq-true-iff (leb 32 b) (leb b 126) .0 (both .0) .0) in
+    rw (ne-eqb 10 b (λ x. omega arith)) (none-printable p (both .1))
+
+-- what `is_plain` finds
+pub found-plain : (s : List ℕ) (at : ℕ) (good : Bool) → at ≤ length s → 140 ≤ length s - at → (getD s (at + 138) 0 ≡ 10 → ⊥) → getD s (at + 139) 0 ≡ 10
+    → good ≡ all (isOf Printable) (take (at + 138 - at) (drop at s)) → good ≡ true → Plain (drop at s)
+found-plain s at good h l other lf e t =
+    let printable = sym e ∙ t in
+    let next : at + 138 + 1 ≡ at + 139 = omega arith in
     let whole : at + pieceLength (drop at s) ≡ at + 139 + 1 =
-    runs-on s at (at + 128) (omega arith) (omega arith) (sym p)
-    ∙ runs-on s (at + 128) (at + 139) (omega arith) (omega arith) (sym q)
-    ∙ ends-behind s (at + 139) (omega arith) e
+    runs-on s at (at + 138) (omega arith) (omega arith) (none-printable (take (at + 138 - at) (drop at s)) printable)
+    ∙ (rw next at (goes-on s (at + 138) (omega arith) other))
+    ∙ ends-behind s (at + 139) (omega arith) lf
     in
-    omega arith
+    let n : at + 138 - at ≡ 138 = omega arith in
+    record { long = omega arith; printable = rw n at printable }
 
 pub begun : (p s : List ℕ) → member 10 p ≡ false → pieces (p ++ s) ≡ joinRun p (pieces s)
 begun [] s e = join-none (pieces s)

@@ -2,11 +2,16 @@
 use Prim.Native.Nat.{ℕ, _+_, _-_, _≤_, _<_}
 use native.Mathlib.Omega.{arith}
 use mathlib.Core.Path.{_≡_, sym, ap, _∙_}
+use mathlib.Core.Bool.{true}
 use mathlib.Core.List.{List, _∷_}
 use lib.ListN.{length, getD, take, drop, length-drop}
-use lib.Seq.{length-take-le}
+use lib.Seq.{length-take-le, take-take}
+use Rattle.run.specs.Runs.{all}
 use Rattle.run.proofs.Scan.{at-next}
+use Rattle.field.specs.Byte.{isOf}
+use Rattle.field.specs.declared.Class.the-variants.{Printable}
 use Rattle.piece.specs.Pieces.{pieces, pieceLength}
+use Rattle.piece.specs.Promises.{Plain}
 use Rattle.piece.proofs.Firsts.{first-piece-at}
 use Rattle.piece.proofs.Lengths.{piece-some, piece-inside}
 
@@ -30,3 +35,11 @@ module _ (text : List ℕ) (at end : ℕ) (more : at < length text) (e : end ≡
       first-piece-at text at more
       ∙ ap (λ k. take k (drop at text) ∷ pieces (drop (at + pieceLength (drop at text)) text)) n
       ∙ ap (λ k. part text at end ∷ pieces (drop k text)) (sym e)
+
+-- of a plain piece, the lent part is printable as far as the text is
+pub plain-lent : (text : List ℕ) (at end : ℕ) → end ≡ at + pieceLength (drop at text) → Plain (drop at text)
+    → all (isOf Printable) (take 138 (part text at end)) ≡ true
+plain-lent text at end e p =
+    let n : end - at ≡ 140 = omega (arith, p .long) in
+    let few : 138 ≤ 140 = omega arith in
+    rw (n, take-take) (p .printable)

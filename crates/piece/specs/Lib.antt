@@ -2,5 +2,5 @@
 pub mod Pieces
 -- What the pieces of a text are, described
 pub mod Cuts
--- What `next` answers, in the paper's terms
+-- What `next` answers, in the paper's terms, and what `cut` does
 pub mod Promises

@@ -4,12 +4,24 @@ ghost use mathlib.Core.Path.{_≡_};
 ghost use mathlib.Core.Bool.{true};
 ghost use lib.ListN.{length, drop};
 ghost use Rattle.piece.specs.Pieces.{pieceLength};
-ghost use Rattle.piece.specs.Promises.{Nexts};
+ghost use Rattle.piece.specs.Promises.{CutAt, Nexts, Plain};
+use field::Class;
+use field::verbatim;
 
 pub const LF: u8 = 10;
 
 // Most pieces are lines, and this is the length of a line.
-const USUAL: usize = 140;
+const LINE: usize = 140;
+
+// What a line has before its CR LF.
+const FIELDS: usize = 138;
+
+// Where a piece ends, and whether it is known to be plain: of the length of a line, all its bytes but the last two printable. A piece
+// that is not said to be plain may be so.
+pub struct Span {
+    pub end: usize,
+    pub plain: bool,
+}
 
 // The next piece of a text, by the place behind it.
 pub enum Ahead {
@@ -17,19 +29,21 @@ pub enum Ahead {
     Nothing,
 }
 
-// Whether the piece that starts at a place is of the usual length and ends in LF. The bytes before the LF are looked through in two runs of
-// fixed length without early exit, so that they are vectorised: 16 divides the first.
-fn is_usual(text: &[u8], at: usize) -> bool
+// A printable byte is no LF, so that one pass tells where the piece ends and that its fields are printable.
+fn is_plain(text: &[u8], at: usize) -> bool
     requires { ⌜ at ≤ length (now text) ⌝ }
-    ensures { λ r. ⌜ (r ≡ true → pieceLength (drop at (now (text .entry))) ≡ 140) ⌝ }
+    ensures { λ r. ⌜ (r ≡ true → Plain (drop at (now (text .entry)))) ⌝ }
 {
-    if text.len() - at < USUAL {
+    if text.len() - at < LINE {
+        return false;
+    }
+    if text[at + 138] == LF {
         return false;
     }
     if text[at + 139] != LF {
         return false;
     }
-    !run::member(LF, &text[at..at + 128]) & !run::member(LF, &text[at + 128..at + 139])
+    verbatim::all_of(&text[at..at + FIELDS], Class::Printable)
 }
 
 fn end_by_bytes(text: &[u8], at: usize) -> usize
@@ -46,15 +60,25 @@ fn end_by_bytes(text: &[u8], at: usize) -> usize
     i
 }
 
+// The piece that starts at a place.
+pub fn cut(text: &[u8], at: usize) -> Span
+    requires { ⌜ at ≤ length (now text) ⌝ }
+    ensures { λ r. ⌜ CutAt (now (text .entry)) at r ⌝ }
+{
+    if is_plain(text, at) {
+        let end = at + LINE;
+        return Span { end, plain: true };
+    }
+    let end = end_by_bytes(text, at);
+    Span { end, plain: false }
+}
+
 // The place behind the piece that starts at a place.
 pub fn end(text: &[u8], at: usize) -> usize
     requires { ⌜ at ≤ length (now text) ⌝ }
     ensures { λ r. ⌜ r ≡ at + pieceLength (drop at (now (text .entry))) ⌝ }
 {
-    if is_usual(text, at) {
-        return at + USUAL;
-    }
-    end_by_bytes(text, at)
+    cut(text, at).end
 }
 
 // Any text, any place.
