@@ -23,6 +23,14 @@ use refusal::Refusal;
 pub fn read(piece: &[u8]) -> Reading
     ensures { λ r. ⌜ Read (now (piece .entry)) r ⌝ }
 {
+    read_in(piece, false)
+}
+
+// The same for a piece whose fields may be known to be printable: those of a plain one are not looked through again.
+pub fn read_in(piece: &[u8], plain: bool) -> Reading
+    requires { ⌜ (plain ≡ true → printable (now piece) ≡ true) ⌝ }
+    ensures { λ r. ⌜ Read (now (piece .entry)) r ⌝ }
+{
     if is_crlf(piece) {
         return Reading {
             outcome: Outcome::EndOfDay,
@@ -35,7 +43,7 @@ pub fn read(piece: &[u8]) -> Reading
     if !is_crlf(&piece[layout::FIELDS..]) {
         return refused(Refusal::NoLine);
     }
-    if !verbatim::all_of(&piece[0..layout::FIELDS], Class::Printable) {
+    if !is_printable(piece, plain) {
         return refused(Refusal::BadByte);
     }
     by_fields(piece)
@@ -48,6 +56,17 @@ fn is_crlf(s: &[u8]) -> bool
         return false;
     }
     (s[0] == b'\r') & (s[1] == b'\n')
+}
+
+fn is_printable(piece: &[u8], plain: bool) -> bool
+    requires { ⌜ length (now piece) ≡ 140 ⌝ }
+    requires { ⌜ (plain ≡ true → printable (now piece) ≡ true) ⌝ }
+    ensures { λ r. ⌜ r ≡ printable (now (piece .entry)) ⌝ }
+{
+    if plain {
+        return true;
+    }
+    verbatim::all_of(&piece[0..layout::FIELDS], Class::Printable)
 }
 
 // What stands beside an outcome that is no line.

@@ -4,6 +4,7 @@ mod strikes;
 mod times;
 
 pub use fields::read;
+pub use fields::read_in;
 use layout::Clock;
 use layout::Numbers;
 use layout::Record;
