@@ -1,7 +1,7 @@
 // Booking: a plan is carried out by whole slots and the header.
 ghost use mathlib.Core.Path.{_≡_};
 ghost use mathlib.Core.Bool.{true};
-ghost use Rattle.layout.specs.Line.{line, endOfDay};
+ghost use Rattle.layout.specs.Line.{line, endOfDay, printable};
 ghost use Rattle.day.specs.Machine.{newOrder, withPrice};
 ghost use Rattle.table.specs.Changes.{changedAt};
 ghost use Rattle.slot.specs.Places.{SlotInside};
@@ -30,17 +30,24 @@ pub fn book(t: &mut [u8], piece: &[u8]) -> Booking
     // An index would cost more than the one or two scans of a single piece.
     let mut heads = [0u16; 0];
     let mut nexts = [0u16; 0];
-    book_sound(t, &mut heads, &mut nexts, piece)
+    book_sound(t, &mut heads, &mut nexts, piece, false)
 }
 
 // For a caller that holds the table sound by proof, and an index beside it or none: the same promise, and no damage check is paid.
-pub fn book_sound(t: &mut [u8], heads: &mut [u16], nexts: &mut [u16], piece: &[u8]) -> Booking
+pub fn book_sound(
+    t: &mut [u8],
+    heads: &mut [u16],
+    nexts: &mut [u16],
+    piece: &[u8],
+    plain: bool,
+) -> Booking
     requires { ⌜ sound (now t) ≡ true ⌝ }
     requires { ⌜ Beside (now t) (now heads) (now nexts) ⌝ }
+    requires { ⌜ (plain ≡ true → printable (now piece) ≡ true) ⌝ }
     ensures { λ x. ⌜ Books (now (t .entry)) (now (piece .entry)) x (now (t .exit)) ⌝ }
     ensures { λ _. ⌜ Beside (now (t .exit)) (now (heads .exit)) (now (nexts .exit)) ⌝ }
 {
-    let reading = line::read(piece);
+    let reading = line::read_in(piece, plain);
     let outcome = reading.outcome;
     match outcome {
         Outcome::EndOfDay => book_end(t),

@@ -47,8 +47,9 @@ fn book_pieces(
     let mut at = 0;
     let mut n = 0;
     while (at < text.len()) & (n < answers.len()) {
-        let end = piece::end(text, at);
-        answers[n] = answer(book::book_sound(t, heads, nexts, &text[at..end]));
+        let cut = piece::cut(text, at);
+        let end = cut.end;
+        answers[n] = answer(book::book_sound(t, heads, nexts, &text[at..end], cut.plain));
         n += 1;
         at = end;
     }

@@ -4,6 +4,7 @@ ghost use mathlib.Core.Path.{_≡_};
 ghost use mathlib.Core.Bool.{true};
 ghost use mathlib.Core.List.{_++_};
 ghost use lib.ListN.{length};
+ghost use Rattle.layout.specs.Line.{printable};
 ghost use Rattle.book.specs.Bytes.{bookAnswer, bookBytes};
 ghost use Rattle.table.specs.Tables.{sound};
 ghost use Rattle.lookup.specs.Beside.{Beside};
@@ -32,17 +33,19 @@ fn book_piece(
     heads: &mut [u16],
     nexts: &mut [u16],
     piece: &[u8],
+    plain: bool,
     line: u64,
     out: &mut [u8],
 ) -> usize
     requires { ⌜ sound (now t) ≡ true ⌝ }
     requires { ⌜ Beside (now t) (now heads) (now nexts) ⌝ }
     requires { ⌜ longest ≤ length (now out) ⌝ }
+    requires { ⌜ (plain ≡ true → printable (now piece) ≡ true) ⌝ }
     ensures { λ r. ⌜ Wrote (Printed·report line (bookAnswer (now (t .entry)) (now (piece .entry)))) (now (out .entry)) (now (out .exit)) r ⌝ }
     ensures { λ _. ⌜ now (t .exit) ≡ bookBytes (now (t .entry)) (now (piece .entry)) ⌝ }
     ensures { λ _. ⌜ Beside (now (t .exit)) (now (heads .exit)) (now (nexts .exit)) ⌝ }
 {
-    match book::book_sound(t, heads, nexts, piece) {
+    match book::book_sound(t, heads, nexts, piece, plain) {
         Booking::Booked => 0,
         Booking::Refused(x) => report::refused(line, x, out),
     }
@@ -65,7 +68,8 @@ pub fn book_held(
     ensures { λ _. ⌜ now (t .exit) ≡ bookBytes (now (t .entry)) (heldIn (now (hold .entry)) held) ⌝ }
     ensures { λ _. ⌜ Beside (now (t .exit)) (now (heads .exit)) (now (nexts .exit)) ⌝ }
 {
-    book_piece(t, heads, nexts, &hold[0..held], line, out)
+    // The parts came from several chunks: no pass has looked at them as one piece.
+    book_piece(t, heads, nexts, &hold[0..held], false, line, out)
 }
 
 // The part of a chunk that ends a piece. Where nothing is held it is the piece.
@@ -76,6 +80,7 @@ pub fn book_part(
     hold: &mut [u8],
     held: usize,
     part: &[u8],
+    plain: bool,
     line: u64,
     out: &mut [u8],
 ) -> usize
@@ -84,13 +89,14 @@ pub fn book_part(
     requires { ⌜ length (now hold) ≡ holdLength ⌝ }
     requires { ⌜ held ≤ holdLength ⌝ }
     requires { ⌜ longest ≤ length (now out) ⌝ }
+    requires { ⌜ (plain ≡ true → printable (now part) ≡ true) ⌝ }
     ensures { λ r. ⌜ Wrote (Printed·report line (bookAnswer (now (t .entry)) (heldIn (now (hold .entry)) held ++ now (part .entry)))) (now (out .entry)) (now (out .exit)) r ⌝ }
     ensures { λ _. ⌜ now (t .exit) ≡ bookBytes (now (t .entry)) (heldIn (now (hold .entry)) held ++ now (part .entry)) ⌝ }
     ensures { λ _. ⌜ Beside (now (t .exit)) (now (heads .exit)) (now (nexts .exit)) ⌝ }
     ensures { λ _. ⌜ length (now (hold .exit)) ≡ holdLength ⌝ }
 {
     if held == 0 {
-        return book_piece(t, heads, nexts, part, line, out);
+        return book_piece(t, heads, nexts, part, plain, line, out);
     }
     let n = keep(hold, held, part);
     book_held(t, heads, nexts, hold, n, line, out)

@@ -62,7 +62,8 @@ pub fn step(
     let mut kept = held;
     let mut number = line;
     while used < chunk.len() {
-        let end = piece::end(chunk, used);
+        let cut = piece::cut(chunk, used);
+        let end = cut.end;
         if chunk[end - 1] != piece::LF {
             let begun = hold::keep(hold, kept, &chunk[used..end]);
             return Fed {
@@ -87,6 +88,7 @@ pub fn step(
             hold,
             kept,
             &chunk[used..end],
+            cut.plain,
             number,
             &mut out[wrote..],
         );

@@ -4,7 +4,7 @@ use native.Mathlib.Omega.{arith}
 use mathlib.Core.Path.{_≡_, refl, _∙_}
 use denote.Ref.{now}
 use lib.ListN.{length}
-use Rattle.piece.proofs.Lent.{piece-bounds}
+use Rattle.piece.proofs.Lent.{piece-bounds, plain-lent}
 use Rattle.lookup.specs.Beside.{Beside}
 use Rattle.book_all.proofs.Turns.{Turn, first-turn, goes-on, next-turn, stops}
 use borrow.Author.Needs.{needs}
@@ -23,16 +23,16 @@ abbrev μ-loop : tie.MeasureT-loop
 test : (c : tie.In-loop Inv-loop μ-loop) → (c .before .loop .at < length (now (c .before .before .before .before .before .before .before .args .text))) × (c .before .loop .n < length (c .before .loop .answers))
 test c = goes-on (c .before .loop .at) (c .before .loop .n) (now (c .before .before .before .before .before .before .before .args .text)) (c .before .loop .answers) (c .loop-test .taken)
 
-bounds : (c : tie.After-end Inv-loop μ-loop) → (c .before .before .loop .at < c .end .result) × (c .end .result ≤ length (now (c .before .before .before .before .before .before .before .before .args .text)))
-bounds c = piece-bounds (now (c .before .before .before .before .before .before .before .before .args .text)) (c .before .before .loop .at) (c .end .result) (test (c .before) .0) (c .end .ensures)
+bounds : (c : tie.After-cut Inv-loop μ-loop) → (c .before .before .loop .at < c .cut .result .end) × (c .cut .result .end ≤ length (now (c .before .before .before .before .before .before .before .before .args .text)))
+bounds c = piece-bounds (now (c .before .before .before .before .before .before .before .before .args .text)) (c .before .before .loop .at) (c .cut .result .end) (test (c .before) .0) (c .cut .ensures .ends)
 
 loop-holds : tie.Need-loop-holds Inv-loop μ-loop
 loop-holds c =
     let start = c .before .before .before .before .before in
     (first-turn (now (start .args .t)) (now (start .args .text)) (now (start .args .answers)) (start .pre .0), start .pre .1, refl, refl)
 
-end-requires : tie.Need-end-requires Inv-loop μ-loop
-end-requires c κs = c .before .loop .inv .0 .inside
+cut-requires : tie.Need-cut-requires Inv-loop μ-loop
+cut-requires c κs = c .before .loop .inv .0 .inside
 
 sub-book-sound : tie.Need-sub-book-sound Inv-loop μ-loop
 sub-book-sound c = search needs
@@ -44,7 +44,10 @@ part-book-sound-end : tie.Need-part-book-sound-end Inv-loop μ-loop
 part-book-sound-end c = search (needs, bounds (c .before .before .before))
 
 book-sound-requires : tie.Need-book-sound-requires Inv-loop μ-loop
-book-sound-requires c κs = let inv = c .before .before .before .before .before .before .loop .inv in (inv .0 .good, inv .1)
+book-sound-requires c κs =
+    let piece = c .before .before .before .before in
+    let inv = piece .before .before .loop .inv in
+    (inv .0 .good, (inv .1, λ e. plain-lent _ _ _ (piece .cut .ensures .ends) (piece .cut .ensures .plain e)))
 
 answer-requires : tie.Need-answer-requires Inv-loop μ-loop
 answer-requires c κs = search needs
@@ -64,9 +67,9 @@ loop-less c = omega (arith, bounds (c .before .before .before .before .before .b
 loop-again : tie.Need-loop-again Inv-loop μ-loop
 loop-again c =
     let turn = c .before .before .before .before .before .before .before .before .before .before .before .before .before .before .loop in
-    let piece = c .before .before .before .before .before .before .before .before .before .before .before .before .end in
+    let piece = c .before .before .before .before .before .before .before .before .before .before .before .before .cut in
     let booked = c .before .before .before .before .before .before .before .book-sound in
-    (next-turn (turn .inv .0) (piece .result) (test (c .before .before .before .before .before .before .before .before .before .before .before .before .before) .0) (test (c .before .before .before .before .before .before .before .before .before .before .before .before .before) .1) (piece .ensures) (booked .ensures .0) (c .answer .ensures), booked .ensures .1, booked .kept .1 .0 ∙ turn .inv .2, booked .kept .1 .1 .0 ∙ turn .inv .3)
+    (next-turn (turn .inv .0) (piece .result .end) (test (c .before .before .before .before .before .before .before .before .before .before .before .before .before) .0) (test (c .before .before .before .before .before .before .before .before .before .before .before .before .before) .1) (piece .ensures .ends) (booked .ensures .0) (c .answer .ensures), booked .ensures .1, booked .kept .1 .0 ∙ turn .inv .2, booked .kept .1 .1 .0 ∙ turn .inv .3)
 
 same-length : tie.Need-same-length Inv-loop μ-loop
 same-length c = c .before .loop .inv .0 .same-table
@@ -90,7 +93,7 @@ book-pieces-spec =
     Inv-loop
     μ-loop
     loop-holds
-    end-requires
+    cut-requires
     sub-book-sound
     part-book-sound-start
     part-book-sound-end

@@ -4,7 +4,7 @@ use native.Mathlib.Omega.{arith}
 use mathlib.Core.Path.{_≡_, refl}
 use denote.Ref.{now}
 use lib.ListN.{length}
-use Rattle.piece.proofs.Lent.{piece-bounds}
+use Rattle.piece.proofs.Lent.{piece-bounds, plain-lent}
 use Rattle.lookup.specs.Beside.{Beside}
 use Rattle.feed.specs.Steps.{between, heldIn, stepFrom}
 use Rattle.feed.proofs.Turns.{Turn, first-turn, same-long, room-lent, room-said, at-chunk-end, keeps-begun, stops, next-turn}
@@ -24,15 +24,15 @@ abbrev μ-loop : tie.MeasureT-loop
 μ-loop chunk t₀ heads₀ nexts₀ hold₀ held line out₀ used₀ wrote₀ kept₀ number₀ t heads nexts hold out used wrote kept number = length chunk - used
 
 -- the way back: to the piece that begins at a turn, from where it is known to end in this chunk and from where it is booked
-abbrev to-piece : tie.Else1 Inv-loop μ-loop → tie.After-end Inv-loop μ-loop
+abbrev to-piece : tie.Else1 Inv-loop μ-loop → tie.After-cut Inv-loop μ-loop
 to-piece c = c .before .before
 
 abbrev to-room : tie.After-book-part Inv-loop μ-loop → tie.Else2 Inv-loop μ-loop
 to-room c = c .before .before .before .before .before .before .before
 
 -- that piece lies in the chunk
-bounds : (c : tie.After-end Inv-loop μ-loop) → (c .before .before .loop .used < c .end .result) × (c .end .result ≤ length (now (c .before .before .before .before .before .before .before .before .before .args .chunk)))
-bounds c = piece-bounds (now (c .before .before .before .before .before .before .before .before .before .args .chunk)) (c .before .before .loop .used) (c .end .result) (c .before .loop-test .taken) (c .end .ensures)
+bounds : (c : tie.After-cut Inv-loop μ-loop) → (c .before .before .loop .used < c .cut .result .end) × (c .cut .result .end ≤ length (now (c .before .before .before .before .before .before .before .before .before .args .chunk)))
+bounds c = piece-bounds (now (c .before .before .before .before .before .before .before .before .before .args .chunk)) (c .before .before .loop .used) (c .cut .result .end) (c .before .loop-test .taken) (c .cut .ensures .ends)
 
 -- ---- the needs
 
@@ -42,8 +42,8 @@ loop-holds c =
     let a = start .args in
     (first-turn (now (a .chunk)) (now (a .t)) (now (a .hold)) (now (a .out)) (a .held) (a .line) (start .pre .0) (search needs) (search needs), start .pre .1 .0, refl, refl)
 
-end-requires : tie.Need-end-requires Inv-loop μ-loop
-end-requires c κs = search needs
+cut-requires : tie.Need-cut-requires Inv-loop μ-loop
+cut-requires c κs = search needs
 
 sub-if1 : tie.Need-sub-if1 Inv-loop μ-loop
 sub-if1 c = search (needs, bounds c)
@@ -83,7 +83,7 @@ returns c =
     let piece = c .before .before .before .before .before .before .before in
     let inv = piece .before .before .loop .inv in
     let kept = c .before .before .keep .ensures in
-    (keeps-begun (inv .0) (piece .end .result) (piece .before .loop-test .taken) (piece .end .ensures) (c .before .before .before .before .before .if1 .taken) (kept .0) (kept .1 .0) (kept .1 .1), (inv .0 .good, inv .1))
+    (keeps-begun (inv .0) (piece .cut .result .end) (piece .before .loop-test .taken) (piece .cut .ensures .ends) (c .before .before .before .before .before .if1 .taken) (kept .0) (kept .1 .0) (kept .1 .1), (inv .0 .good, inv .1))
 
 sub-if2 : tie.Need-sub-if2 Inv-loop μ-loop
 sub-if2 c = search (needs, same-long (c .before .before .before .before .loop .inv .0))
@@ -108,7 +108,7 @@ returns-2 c =
     let ends = c .before in
     let piece = to-piece ends in
     let inv = piece .before .before .loop .inv in
-    (stops (inv .0) (piece .end .result) (piece .before .loop-test .taken) (piece .end .ensures) (ends .if1 .left) (c .if2 .taken), (inv .0 .good, inv .1))
+    (stops (inv .0) (piece .cut .result .end) (piece .before .loop-test .taken) (piece .cut .ensures .ends) (ends .if1 .left) (c .if2 .taken), (inv .0 .good, inv .1))
 
 sub-book-part : tie.Need-sub-book-part Inv-loop μ-loop
 sub-book-part c = search needs
@@ -131,8 +131,9 @@ part-book-part-end-2 c = search needs
 book-part-requires : tie.Need-book-part-requires Inv-loop μ-loop
 book-part-requires c κs =
     let room = c .before .before .before .before .before .before in
-    let inv = to-piece (room .before) .before .before .loop .inv in
-    (inv .0 .good, (inv .1, (inv .0 .long, (inv .0 .few, room-lent (inv .0) (room .if2 .left)))))
+    let piece = to-piece (room .before) in
+    let inv = piece .before .before .loop .inv in
+    (inv .0 .good, (inv .1, (inv .0 .long, (inv .0 .few, (room-lent (inv .0) (room .if2 .left), λ e. plain-lent _ _ _ (piece .cut .ensures .ends) (piece .cut .ensures .plain e))))))
 
 add-wrote : tie.Need-add-wrote Inv-loop μ-loop
 add-wrote c =
@@ -153,7 +154,7 @@ loop-again c =
     let room = to-room booked in
     let piece = to-piece (room .before) in
     let inv = piece .before .before .loop .inv in
-    (next-turn (inv .0) (piece .end .result) (piece .before .loop-test .taken) (piece .end .ensures) (room .before .if1 .left) (room .if2 .left) (said .0, said .1 .0) (said .1 .1 .1) (c .next-line .ensures), said .1 .1 .0, search needs, search needs)
+    (next-turn (inv .0) (piece .cut .result .end) (piece .before .loop-test .taken) (piece .cut .ensures .ends) (room .before .if1 .left) (room .if2 .left) (said .0, said .1 .0) (said .1 .1 .1) (c .next-line .ensures), said .1 .1 .0, search needs, search needs)
 
 same-length-11 : tie.Need-same-length-11 Inv-loop μ-loop
 same-length-11 c = c .before .loop .inv .0 .table
@@ -182,7 +183,7 @@ step-spec =
     Inv-loop
     μ-loop
     loop-holds
-    end-requires
+    cut-requires
     sub-if1
     shared-slice-read-if1
     sub-keep

@@ -1,4 +1,5 @@
 -- `book::store::book` meets its contract.
+use mathlib.Core.Bool.{true≢false}
 use mathlib.Core.Path.{refl, sym, _∙_}
 use borrow.Author.Tests.{not-true, not-false}
 use denote.Ref.{now}
@@ -26,7 +27,7 @@ slice-aggregate-book-sound-2 : tie.Need-slice-aggregate-book-sound-2
 slice-aggregate-book-sound-2 c = search needs
 
 book-sound-requires : tie.Need-book-sound-requires
-book-sound-requires c κs = (sym (c .before .before .before .before .is-sound .ensures) ∙ not-false _ (c .before .before .before .if1 .left), none-beside _ _ _ refl)
+book-sound-requires c κs = (sym (c .before .before .before .before .is-sound .ensures) ∙ not-false _ (c .before .before .before .if1 .left), (none-beside _ _ _ refl, λ e. absurd (true≢false (sym e))))
 
 same-length-2 : tie.Need-same-length-2
 same-length-2 c = search needs

@@ -6,8 +6,8 @@ use borrow.Author.Needs.{needs}
 use Rattle.book.proofs.store.book_sound.Statement.{statement}
 use Rattle.book.proofs.store.book_sound.Tie as tie
 
-read-requires : tie.Need-read-requires
-read-requires c κs = search needs
+read-in-requires : tie.Need-read-in-requires
+read-in-requires c κs = search needs
 
 enum-told : tie.Need-enum-told
 enum-told c = search needs
@@ -31,9 +31,9 @@ returns : tie.Need-returns
 returns c =
     let start = c .before .before .before .before .before .before .before .before .before .before .before in
     let piece = now (start .args .piece) in
-    let said = outcome-is piece _ _ _ (c .before .before .before .before .enum-told .given .1) (c .before .before .before .before .before .before .read .ensures .said) in
+    let said = outcome-is piece _ _ _ (c .before .before .before .before .enum-told .given .1) (c .before .before .before .before .before .before .read-in .ensures .said) in
     let done = c .before .before .book-end .ensures in
-    (read-as (now (start .args .t)) piece (search needs) endOfDay _ _ said done, end-beside done (start .pre .1))
+    (read-as (now (start .args .t)) piece (search needs) endOfDay _ _ said done, end-beside done (start .pre .1 .0))
 
 same-length-2 : tie.Need-same-length-2
 same-length-2 c = search needs
@@ -48,21 +48,21 @@ returns-2 : tie.Need-returns-2
 returns-2 c =
     let start = c .before .before .before .before .before .before .before .before .before .before .before .before .before .before .before .before .before in
     let piece = now (start .args .piece) in
-    let said = outcome-is piece _ _ _ (c .before .before .before .before .before .before .before .before .before .before .enum-told2 .given .1) (c .before .before .before .before .before .before .before .before .before .before .before .before .read .ensures .said) in
+    let said = outcome-is piece _ _ _ (c .before .before .before .before .before .before .before .before .before .before .enum-told2 .given .1) (c .before .before .before .before .before .before .before .before .before .before .before .before .read-in .ensures .said) in
     let done = c .before .before .before .before .before .before .book-line .ensures in
-    (read-as (now (start .args .t)) piece (search needs) (line (c .before .before .before .before .before .before .before .before .before .before .before .before .read .result .line)) _ _ said (done .0), done .1)
+    (read-as (now (start .args .t)) piece (search needs) (line (c .before .before .before .before .before .before .before .before .before .before .before .before .read-in .result .line)) _ _ said (done .0), done .1)
 
 returns-3 : tie.Need-returns-3
 returns-3 c =
     let start = c .before .before .before .before .before .before .before .before in
     let piece = now (start .args .piece) in
-    (unread (now (start .args .t)) piece (search needs) _ (outcome-is piece _ _ _ (c .before .outcome .given .1) (c .before .before .before .read .ensures .said)), search needs)
+    (unread (now (start .args .t)) piece (search needs) _ (outcome-is piece _ _ _ (c .before .outcome .given .1) (c .before .before .before .read-in .ensures .said)), search needs)
 
 pub book-sound-spec : {M : Type 1} → statement M
 book-sound-spec =
     tie.close
     (tie.spec
-    read-requires
+    read-in-requires
     enum-told
     book-end-requires
     enum-told-2

@@ -1,4 +1,6 @@
 -- `feed::hold::book_held` meets its contract: the part that is lent is what is held.
+use mathlib.Core.Bool.{true≢false}
+use mathlib.Core.Path.{sym}
 use denote.Ref.{now}
 use Rattle.feed.proofs.Saying.{held-says}
 use borrow.Author.Needs.{needs}
@@ -15,7 +17,7 @@ part-book-piece-end : tie.Need-part-book-piece-end
 part-book-piece-end c = search needs
 
 book-piece-requires : tie.Need-book-piece-requires
-book-piece-requires c κs = search needs
+book-piece-requires c κs = (search needs, (search needs, (search needs, λ e. absurd (true≢false (sym e)))))
 
 same-length : tie.Need-same-length
 same-length c = search needs

@@ -7,7 +7,7 @@ use Rattle.feed.proofs.hold.book_part.Statement.{statement}
 use Rattle.feed.proofs.hold.book_part.Tie as tie
 
 book-piece-requires : tie.Need-book-piece-requires
-book-piece-requires c κs = search needs
+book-piece-requires c κs = let pre = c .before .before .before .before .before .before .before .before .before .before .before .pre in (pre .0, (pre .1 .0, pre .1 .1 .1 .1))
 
 same-length : tie.Need-same-length
 same-length c = search needs
