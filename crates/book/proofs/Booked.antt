@@ -1,5 +1,6 @@
 -- The ways out of booking a piece, each as the promise says it.
 use Prim.Native.Nat.{ℕ, _+_, _<_}
+use native.Mathlib.Omega.{arith}
 use mathlib.Core.Path.{_≡_, refl, ap, ap₂, _∙_}
 use mathlib.Core.Bool.{Bool, true, false, cond}
 use mathlib.Core.List.{List, [], _∷_}
@@ -9,6 +10,9 @@ use lib.Seq.{sets, length-sets}
 use Rattle.refusal.specs.Answer.{value, refusedBy}
 use Rattle.refusal.specs.declared.Refusal.{Refusal}
 use Rattle.refusal.specs.declared.Refusal.the-variants.{Damaged, DayOver}
+use Rattle.run.specs.Runs.{part}
+use Rattle.run.proofs.Parts.{part-part}
+use Rattle.layout.proofs.Names.{source-said, token-said, said-length}
 use Rattle.layout.specs.Line.{Said, line, endOfDay, read}
 use Rattle.layout.specs.declared.Record.{Record}
 use Rattle.line.specs.Promises.{saidOf}
@@ -24,12 +28,21 @@ use Rattle.lookup.specs.Beside.{Beside}
 use Rattle.lookup.proofs.Beside.{over-beside, changed-beside}
 use Rattle.table.proofs.Holding.{count-stored}
 use Rattle.book.specs.Bytes.{bookBytes, bookAnswer}
-use Rattle.book.specs.Plans.{refigured, Plans, RoomFor, Carried, BooksSaid, answerOf, afterPlan}
+use Rattle.book.specs.Plans.{Named, refigured, Plans, RoomFor, Carried, BooksSaid, answerOf, afterPlan}
 use Rattle.book.specs.Promises.{Books, bookingOf}
 use Rattle.book.specs.declared.Booking.{Booking}
 use Rattle.book.specs.declared.Booking.the-variants.{Booked, Refused}
 use Rattle.book.specs.declared.Plan.{Plan}
 use Rattle.book.specs.declared.Plan.the-variants.{Replace}
+
+-- ---- the line of a record
+
+-- its key is where a lookup is lent it
+pub named : (s : List ℕ) (r : Record) → read s ≡ value (line r) → Named s r
+named s r e =
+    let source : part (part s 30 26) 0 6 ≡ r .source = part-part s 30 26 0 6 (omega arith) ∙ source-said s r e in
+    let token : part (part s 30 26) 6 20 ≡ r .token = part-part s 30 26 6 20 (omega arith) ∙ token-said s r e in
+    record { long = said-length s r e; own = ap₂ (λ (x y : List ℕ). record { source = x; token = y }) source token }
 
 -- ---- what is stored
 

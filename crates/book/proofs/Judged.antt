@@ -1,9 +1,12 @@
 -- What the conditions of a line say of the order that it speaks of.
-use Prim.Native.Nat.{ℕ, _+_, _-_, _≤_}
-use mathlib.Core.Path.{_≡_}
-use mathlib.Core.Bool.{Bool, true, false, _&&_, or-false}
+use Prim.Native.Nat.{ℕ, zero, suc, _+_, _-_, _≤_}
+use native.Mathlib.Numerals.{add-one}
+use native.Mathlib.Omega.{arith}
+use mathlib.Core.Path.{_≡_, refl, sym, ap, _∙_}
+use mathlib.Core.Bool.{Bool, true, false, not, _&&_, or-false, and-true, and-false}
 use mathlib.Core.List.{List}
-use borrow.Author.Tests.{ltb-false}
+use borrow.Author.Tests.{ltb-false, ne-eqb}
+use lib.Dec.{eqb}
 use Rattle.refusal.specs.declared.Refusal.the-variants.{OtherSeries, NotOpen, NotExecuted, Full}
 use Rattle.layout.specs.declared.Event.the-variants.{Executed, Cancelled, Broken}
 use Rattle.layout.specs.declared.Record.{Record}
@@ -12,21 +15,32 @@ use Rattle.order.specs.declared.Key.{Key}
 use Rattle.order.specs.declared.Order.{Order}
 use Rattle.day.specs.History.{isMaker}
 use Rattle.day.specs.Machine.{found, find, isFound, place, differs, notOpen, notExecuted}
+use Rattle.slot.specs.Places.{placeNo}
+use Rattle.slot.specs.declared.Place.{Place}
+use Rattle.slot.specs.declared.Place.the-variants.{At, Nobody}
 use Rattle.slot.proofs.Lookups.{at-found, nobody-found}
 use Rattle.book.specs.Plans.{planBy, planAbout}
 use Rattle.book.specs.declared.Plan.the-variants.{No}
 
 -- ---- whether a key is taken
 
-module _ (maker : Bool) (k : Key) (os : List Order) where
-  pub no-maker : maker ≡ false → false ≡ (maker && isFound (find k os))
-  no-maker e = rw e
+-- a place is answered where an order is found
+place-tells : (k : Key) (os : List Order) (none : Order) → not (eqb (place k os) 0) ≡ isFound (find k os)
+place-tells k os none = go (place k os) refl
+  where
+    go : (p : ℕ) → place k os ≡ p → not (eqb p 0) ≡ isFound (find k os)
+    go zero e = rw (nobody-found k os e)
+    go (suc i) e = rw (ne-eqb (suc i) 0 (omega arith), at-found k os i none (e ∙ sym (add-one i)) .1)
 
-  pub maker-unknown : maker ≡ true → place k os ≡ 0 → false ≡ (maker && isFound (find k os))
-  maker-unknown e p = rw (e, nobody-found k os p)
+-- what a lookup answered, and whether a line that makes an order would take its key
+pub at-taken : (a b : Bool) (own : Place) (i : ℕ) → a ≡ b → own ≡ At i → a ≡ (b && not (eqb (placeNo own) 0))
+at-taken a b own i e f = e ∙ rw (f, ne-eqb (i + 1) 0 (omega arith), and-true)
 
-  pub maker-known : maker ≡ true → (i : ℕ) (none : Order) → place k os ≡ i + 1 → true ≡ (maker && isFound (find k os))
-  maker-known e i none p = rw (e, at-found k os i none p .1)
+pub nobody-taken : (b : Bool) (own : Place) → own ≡ Nobody → false ≡ (b && not (eqb (placeNo own) 0))
+nobody-taken b own f = rw (f, and-false)
+
+pub taken-is : (maker : Bool) (k : Key) (os : List Order) (none : Order) (p : ℕ) → p ≡ place k os → (maker && not (eqb p 0)) ≡ (maker && isFound (find k os))
+taken-is maker k os none p e = ap (λ b. maker && b) (ap (λ n. not (eqb n 0)) e ∙ place-tells k os none)
 
 -- ---- what a condition that does not apply leaves
 

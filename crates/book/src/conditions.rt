@@ -4,10 +4,8 @@ ghost use Rattle.order.specs.Figure.{Sound};
 ghost use Rattle.order.specs.Names.{sameSeries};
 ghost use Rattle.day.specs.History.{isNew, isMaker, isReplace};
 ghost use Rattle.day.specs.Machine.{found, differs as Machine·differs, notOpen, notExecuted};
-ghost use Rattle.day.specs.Refusals.{subject as Refusals·subject};
 use layout::Event;
 use layout::Record;
-use order::Key;
 use order::Order;
 use order::Series;
 
@@ -24,21 +22,10 @@ pub fn is_maker(event: Event) -> bool
     (t == b'A') | layout::is_replace(t)
 }
 
-fn is_replace(event: Event) -> bool
+pub fn is_replace(event: Event) -> bool
     ensures { λ r. ⌜ r ≡ isReplace event ⌝ }
 {
     layout::is_replace(record::type_of(event))
-}
-
-// The key of the order that a line speaks of: for U, the elder.
-pub fn subject(r: Record) -> Key
-    ensures { λ k. ⌜ k ≡ Refusals·subject r ⌝ }
-{
-    let event = r.event;
-    if is_replace(event) {
-        return order::elder_key_of(r);
-    }
-    order::key_of(r)
 }
 
 fn same_series(a: Series, b: Series) -> bool

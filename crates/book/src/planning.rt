@@ -1,15 +1,17 @@
 // The plan for a line: the first of refusals 6 to 12 that applies, or what is to be stored. No byte is changed here.
 ghost use mathlib.Core.Path.{_≡_};
-ghost use mathlib.Core.Bool.{true, false, _&&_};
-ghost use lib.Dec.{leb};
+ghost use mathlib.Core.Bool.{true, false, not, _&&_};
+ghost use lib.Dec.{eqb, leb};
 ghost use lib.ListN.{length};
 ghost use Rattle.order.specs.Figure.{Sound};
 ghost use Rattle.order.specs.Names.{keyOf};
 ghost use Rattle.day.specs.History.{isNew, isMaker};
-ghost use Rattle.day.specs.Machine.{found, find, isFound, notOpen, notExecuted};
+ghost use Rattle.day.specs.Machine.{found, find, isFound, notOpen, notExecuted, place};
+ghost use Rattle.day.specs.Refusals.{subject as Refusals·subject};
+ghost use Rattle.slot.specs.Places.{placeNo};
 ghost use Rattle.table.specs.Tables.{limitOf, tableIn, sound};
 ghost use Rattle.lookup.specs.Beside.{Beside};
-ghost use Rattle.book.specs.Plans.{Plans, planAbout, planBy};
+ghost use Rattle.book.specs.Plans.{Named, Plans, planAbout, planBy};
 use crate::Plan;
 use crate::conditions;
 use layout::Event;
@@ -19,21 +21,25 @@ use refusal::Refusal;
 use slot::Place;
 use table::header;
 
-// 6 and 7 first, as 01 has them. Of an A only 12 is left then; any other line is about an order of the table.
-pub fn plan(t: &[u8], heads: &[u16], nexts: &[u16], r: Record) -> Plan
+// 6 and 7 first, as 01 has them. Of an A only 12 is left then; any other line is about an order of the table. The key is lent as the line has it, since a Key by
+// value would be stored anew on the way to the lookup.
+pub fn plan(t: &[u8], heads: &[u16], nexts: &[u16], line: &[u8], r: Record) -> Plan
     requires { ⌜ sound (now t) ≡ true ⌝ }
     requires { ⌜ Beside (now t) (now heads) (now nexts) ⌝ }
+    requires { ⌜ Named (now line) r ⌝ }
     ensures { λ p. ⌜ Plans (now (t .entry)) r p ⌝ }
 {
     if header::is_over(t) {
         return Plan::No(Refusal::DayOver);
     }
-    if is_taken(t, heads, nexts, r) {
+    let key = &line[layout::SOURCE..layout::REPLACED];
+    let own = lookup::find(t, heads, nexts, lookup::bucket(heads, key), key);
+    let event = r.event;
+    if is_taken(event, own) {
         return Plan::No(Refusal::KnownKey);
     }
-    let event = r.event;
     if !conditions::is_new(event) {
-        return plan_older(t, heads, nexts, r);
+        return plan_older(t, heads, nexts, r, own);
     }
     if is_full(t) {
         return Plan::No(Refusal::Full);
@@ -41,20 +47,14 @@ pub fn plan(t: &[u8], heads: &[u16], nexts: &[u16], r: Record) -> Plan
     Plan::New
 }
 
-// Whether a line would make an order with a key that is in the table.
-fn is_taken(t: &[u8], heads: &[u16], nexts: &[u16], r: Record) -> bool
-    requires { ⌜ sound (now t) ≡ true ⌝ }
-    requires { ⌜ Beside (now t) (now heads) (now nexts) ⌝ }
-    ensures { λ x. ⌜ x ≡ (isMaker (r .event) && isFound (find (keyOf r) (tableIn (now (t .entry)) .orders))) ⌝ }
+// Whether a line would make an order with a key that is in the table, by what the lookup of its key answered.
+fn is_taken(event: Event, own: Place) -> bool
+    ensures { λ x. ⌜ x ≡ (isMaker event && not (eqb (placeNo own) 0)) ⌝ }
 {
-    let event = r.event;
-    if !conditions::is_maker(event) {
-        return false;
+    match own {
+        Place::At(_) => conditions::is_maker(event),
+        Place::Nobody => false,
     }
-    let Place::At(_) = lookup::find(t, heads, nexts, order::key_of(r)) else {
-        return false;
-    };
-    true
 }
 
 fn is_full(t: &[u8]) -> bool
@@ -64,16 +64,31 @@ fn is_full(t: &[u8]) -> bool
     header::limit(t.len()) <= header::count(t)
 }
 
-// A line about an order of the table.
-fn plan_older(t: &[u8], heads: &[u16], nexts: &[u16], r: Record) -> Plan
+// The order that a line speaks of: for U, the elder.
+fn subject(t: &[u8], heads: &[u16], nexts: &[u16], r: Record, own: Place) -> Place
     requires { ⌜ sound (now t) ≡ true ⌝ }
     requires { ⌜ Beside (now t) (now heads) (now nexts) ⌝ }
+    requires { ⌜ placeNo own ≡ place (keyOf r) (tableIn (now t) .orders) ⌝ }
+    ensures { λ x. ⌜ placeNo x ≡ place (Refusals·subject r) (tableIn (now (t .entry)) .orders) ⌝ }
+{
+    let event = r.event;
+    if !conditions::is_replace(event) {
+        return own;
+    }
+    lookup::find_key(t, heads, nexts, order::elder_key_of(r))
+}
+
+// A line about an order of the table.
+fn plan_older(t: &[u8], heads: &[u16], nexts: &[u16], r: Record, own: Place) -> Plan
+    requires { ⌜ sound (now t) ≡ true ⌝ }
+    requires { ⌜ Beside (now t) (now heads) (now nexts) ⌝ }
+    requires { ⌜ placeNo own ≡ place (keyOf r) (tableIn (now t) .orders) ⌝ }
     requires { ⌜ tableIn (now t) .over ≡ false ⌝ }
     requires { ⌜ (isMaker (r .event) && isFound (find (keyOf r) (tableIn (now t) .orders))) ≡ false ⌝ }
     requires { ⌜ isNew (r .event) ≡ false ⌝ }
     ensures { λ p. ⌜ Plans (now (t .entry)) r p ⌝ }
 {
-    let Place::At(i) = lookup::find(t, heads, nexts, conditions::subject(r)) else {
+    let Place::At(i) = subject(t, heads, nexts, r, own) else {
         return Plan::No(Refusal::UnknownKey);
     };
     plan_about(i, slot::order_at(t, i), r, is_full(t))

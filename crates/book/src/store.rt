@@ -1,13 +1,13 @@
 // Booking: a plan is carried out by whole slots and the header.
 ghost use mathlib.Core.Path.{_≡_};
 ghost use mathlib.Core.Bool.{true};
-ghost use Rattle.layout.specs.Line.{line, endOfDay, printable};
+ghost use Rattle.layout.specs.Line.{line as Line·line, endOfDay, printable};
 ghost use Rattle.day.specs.Machine.{newOrder, withPrice};
 ghost use Rattle.table.specs.Changes.{changedAt};
 ghost use Rattle.slot.specs.Places.{SlotInside};
 ghost use Rattle.table.specs.Tables.{sound};
 ghost use Rattle.lookup.specs.Beside.{Beside};
-ghost use Rattle.book.specs.Plans.{BooksSaid, Carried, RoomFor, refigured};
+ghost use Rattle.book.specs.Plans.{BooksSaid, Carried, Named, RoomFor, refigured};
 ghost use Rattle.book.specs.Promises.{Books};
 use crate::Booking;
 use crate::Plan;
@@ -51,7 +51,7 @@ pub fn book_sound(
     let outcome = reading.outcome;
     match outcome {
         Outcome::EndOfDay => book_end(t),
-        Outcome::Line => book_line(t, heads, nexts, reading.line),
+        Outcome::Line => book_line(t, heads, nexts, piece, reading.line),
         Outcome::Refused(x) => Booking::Refused(x),
     }
 }
@@ -67,13 +67,14 @@ fn book_end(t: &mut [u8]) -> Booking
     Booking::Booked
 }
 
-fn book_line(t: &mut [u8], heads: &mut [u16], nexts: &mut [u16], r: Record) -> Booking
+fn book_line(t: &mut [u8], heads: &mut [u16], nexts: &mut [u16], line: &[u8], r: Record) -> Booking
     requires { ⌜ sound (now t) ≡ true ⌝ }
     requires { ⌜ Beside (now t) (now heads) (now nexts) ⌝ }
-    ensures { λ x. ⌜ BooksSaid (now (t .entry)) (line r) x (now (t .exit)) ⌝ }
+    requires { ⌜ Named (now line) r ⌝ }
+    ensures { λ x. ⌜ BooksSaid (now (t .entry)) (Line·line r) x (now (t .exit)) ⌝ }
     ensures { λ _. ⌜ Beside (now (t .exit)) (now (heads .exit)) (now (nexts .exit)) ⌝ }
 {
-    let plan = planning::plan(t, heads, nexts, r);
+    let plan = planning::plan(t, heads, nexts, line, r);
     carry_out(t, heads, nexts, plan, r)
 }
 

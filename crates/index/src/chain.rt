@@ -44,15 +44,33 @@ fn walk(
     Sought::Found(best)
 }
 
-// One more than the earliest of the first n records with the key, or 0.
+// One more than the earliest of the first n records with the key, or 0; by the key's bucket.
+pub fn find_in(
+    t: &[u8],
+    keys: Section,
+    n: usize,
+    heads: &[u16],
+    nexts: &[u16],
+    b: usize,
+    key: &[u8],
+) -> usize
+    requires { ⌜ Indexed keys (now t) n (now heads) (now nexts) ⌝ }
+    requires { ⌜ length (now key) ≡ keys .width ⌝ }
+    requires { ⌜ b ≡ bucketOf (length (now heads)) (now key) ⌝ }
+    ensures { λ r. ⌜ r ≡ earliest keys (now (t .entry)) n (now (key .entry)) ⌝ }
+{
+    let sought = walk(t, keys, n, heads, nexts, b, key);
+    match sought {
+        Sought::Found(k) => k,
+        Sought::Long => scanning::scan(t, keys, n, key),
+    }
+}
+
+// The same, for a caller that does not know the bucket.
 pub fn find(t: &[u8], keys: Section, n: usize, heads: &[u16], nexts: &[u16], key: &[u8]) -> usize
     requires { ⌜ Indexed keys (now t) n (now heads) (now nexts) ⌝ }
     requires { ⌜ length (now key) ≡ keys .width ⌝ }
     ensures { λ r. ⌜ r ≡ earliest keys (now (t .entry)) n (now (key .entry)) ⌝ }
 {
-    let sought = walk(t, keys, n, heads, nexts, tag::bucket(key, heads.len()), key);
-    match sought {
-        Sought::Found(k) => k,
-        Sought::Long => scanning::scan(t, keys, n, key),
-    }
+    find_in(t, keys, n, heads, nexts, tag::bucket(key, heads.len()), key)
 }

@@ -9,10 +9,12 @@ mod tag;
 
 pub use building::build;
 pub use chain::find;
+pub use chain::find_in;
 pub use differing::distinct;
 pub use entry::append;
 pub use entry::enter;
 pub use scanning::scan;
+pub use tag::bucket;
 
 // The buckets of an index of 512 keys, four for a key: by a number known here the remainder of a tag costs no division.
 pub const USUAL: usize = 2048;

@@ -6,6 +6,8 @@ pub mod Values
 pub mod Lines
 -- What reading and writing say, case by case
 pub mod Answers
+-- Source and Token stand in a record as in its line
+pub mod Names
 -- No strike value can be written in two ways
 pub mod Forms
 -- The twelve of 01, whole lines and broken ones compute

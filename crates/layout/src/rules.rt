@@ -18,6 +18,11 @@ pub const LINE: usize = 140;
 
 pub const FIELDS: usize = 138;
 
+// Where the Source begins, and where the Token ends that stands behind it: between them is the key of a line.
+pub const SOURCE: usize = 30;
+
+pub const REPLACED: usize = 56;
+
 pub const TYPES: [u8; 6] = *b"AEXCUR";
 
 pub const CAPACITIES: [u8; 8] = *b"CFMPBOJN";

@@ -5,11 +5,13 @@ ghost use mathlib.Core.Bool.{true};
 ghost use lib.ListN.{length};
 ghost use Rattle.day.specs.Machine.{place};
 ghost use Rattle.slot.specs.Places.{placeNo};
+ghost use Rattle.slot.specs.Slots.{keyIn};
 ghost use Rattle.table.specs.Changes.{appended};
 ghost use Rattle.table.specs.Tables.{countIn, leastLimit, limitOf, sound, tableIn};
-ghost use Rattle.lookup.specs.Beside.{Beside};
+ghost use Rattle.lookup.specs.Beside.{Beside, Bucket};
 use order::Key;
 use order::Order;
+use slot::KEY;
 use slot::Place;
 use table::header;
 
@@ -31,17 +33,43 @@ pub fn nexts_buffer() -> [u16; NEXTS]
     [0; NEXTS]
 }
 
-// The earliest order with a key.
-pub fn find(t: &[u8], heads: &[u16], nexts: &[u16], k: Key) -> Place
+// The bucket of a key in the index, where there is one. It is worked out apart from the lookup: the compiler would else make the key anew, for the comparisons, of
+// the words that the tag was made of.
+pub fn bucket(heads: &[u16], key: &[u8]) -> usize
+    requires { ⌜ length (now key) ≡ 26 ⌝ }
+    ensures { λ r. ⌜ Bucket (now (heads .entry)) (now (key .entry)) r ⌝ }
+{
+    if heads.len() == 0 {
+        return 0;
+    }
+    index::bucket(&key[0..KEY], heads.len())
+}
+
+// The earliest order with a key, its Source and then its Token, b being its bucket.
+pub fn find(t: &[u8], heads: &[u16], nexts: &[u16], b: usize, key: &[u8]) -> Place
+    requires { ⌜ sound (now t) ≡ true ⌝ }
+    requires { ⌜ Beside (now t) (now heads) (now nexts) ⌝ }
+    requires { ⌜ length (now key) ≡ 26 ⌝ }
+    requires { ⌜ Bucket (now heads) (now key) b ⌝ }
+    ensures { λ r. ⌜ placeNo r ≡ place (keyIn (now (key .entry))) (tableIn (now (t .entry)) .orders) ⌝ }
+{
+    let n = header::count(t) as usize;
+    if heads.len() == 0 {
+        return slot::find(t, n, key);
+    }
+    slot::find_indexed(t, n, heads, nexts, b, key)
+}
+
+// The same, for a caller that has a Key.
+pub fn find_key(t: &[u8], heads: &[u16], nexts: &[u16], k: Key) -> Place
     requires { ⌜ sound (now t) ≡ true ⌝ }
     requires { ⌜ Beside (now t) (now heads) (now nexts) ⌝ }
     ensures { λ r. ⌜ placeNo r ≡ place k (tableIn (now (t .entry)) .orders) ⌝ }
 {
-    let n = header::count(t) as usize;
-    if heads.len() == 0 {
-        return slot::find_key(t, n, k);
-    }
-    slot::find_key_indexed(t, n, heads, nexts, k)
+    let mut key = [0u8; KEY];
+    slot::put_key(&mut key, 0, k);
+    let b = bucket(heads, &key);
+    find(t, heads, nexts, b, &key)
 }
 
 // One order more, entered in the index where there is one.

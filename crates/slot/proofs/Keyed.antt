@@ -17,14 +17,14 @@ use Rattle.order.specs.declared.Key.{Key}
 use Rattle.order.specs.declared.Order.{Order}
 use Rattle.day.specs.History.{oneMore}
 use Rattle.day.specs.Machine.{place}
-use Rattle.section.specs.Sections.{recordOf, KeyOf}
+use Rattle.section.specs.Sections.{recordOf, Holds, KeyOf}
 use Rattle.section.specs.declared.Section.{Section}
 use Rattle.section.proofs.Places.{key-in-record}
 use Rattle.section.proofs.Lists.{records-last, length-records}
 use Rattle.index.specs.Searches.{hasKey, earliest}
 use Rattle.index.specs.Indexes.{Indexed}
 use Rattle.slot.specs.Slots.{slotWidth, keyIn, keyBytes, orderIn}
-use Rattle.slot.specs.Places.{slots, slotKeys, slot, ordersIn}
+use Rattle.slot.specs.Places.{slots, slotKeys, slotAt, slot, ordersIn}
 use Rattle.slot.proofs.Runs.{length-key}
 
 pub keys-of-slots : KeyOf slotKeys slots
@@ -98,11 +98,21 @@ earliest-place s (suc n) key e =
     ∙ sym (place-last (keyIn key) os (orderIn (slot s n)))
     ∙ ap (place (keyIn key)) (sym (records-last orderIn slots s 0 n ∙ ap (λ i. os ++ (orderIn (slot s i) ∷ [])) (zero-add n)))
 
--- `slot::finding::find_indexed`: the index is asked over keys that are known to be the table's
+-- ---- `slot::finding`: records are sought over keys that are known to be the table's, by a key that is lent as the first 26 bytes of its own run
+
+pub key-whole : (key : List ℕ) → length key ≡ 26 → take 26 key ≡ key
+key-whole key e = take-all 26 key (omega arith)
+
 module _ {keys : Section} (q : keys ≡ slotKeys) where
+  pub keys-held : (s : List ℕ) (n : ℕ) → slotAt n ≤ length s → Holds keys s n
+  keys-held s n h = let held : Holds slotKeys s n = record { apart = omega arith; inside = λ i l. omega arith } in rw q held
+
   pub keys-indexed : {s : List ℕ} {n : ℕ} {heads nexts : List ℕ} → Indexed slotKeys s n heads nexts → Indexed keys s n heads nexts
   keys-indexed x = rw q x
 
-  pub found-place : (s : List ℕ) (n : ℕ) (key : List ℕ) → length key ≡ 26 → {found : ℕ} → found ≡ earliest keys s n key
+  pub key-wide : (key : List ℕ) → length key ≡ 26 → length (take 26 key) ≡ keys .width
+  key-wide key e = rw (key-whole key e, q) e
+
+  pub found-place : (s : List ℕ) (n : ℕ) (key : List ℕ) → length key ≡ 26 → {found : ℕ} → found ≡ earliest keys s n (take 26 key)
       → found ≡ place (keyIn key) (ordersIn 0 n s)
-  found-place s n key e f = f ∙ ap (λ k. earliest k s n key) q ∙ earliest-place s n key e
+  found-place s n key e f = f ∙ rw (key-whole key e, q) (earliest-place s n key e)

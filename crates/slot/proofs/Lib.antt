@@ -6,8 +6,6 @@ pub mod Room
 pub mod Said
 -- What a store does to slots, header and orders
 pub mod Laws
--- What is kept from slot to slot for a key
-pub mod Search
 -- Which order a place found by key stands for
 pub mod Lookups
 -- The earliest record with a key is the place of its order

@@ -67,6 +67,5 @@ pub place-known : (os : List Order) (p q : Place) (k l : Key) → placeNo p ≡ 
 place-known os p q k l e f g = sym (ap (λ x. place x os) g) ∙ sym e ∙ ap placeNo f
 
 -- the same of a search among the first n
-pub place-is : (s : List ℕ) (p q : Place) (k l : Key) (n m : ℕ) → placeNo p ≡ place k (ordersIn 0 n s) → p ≡ q → k ≡ l → n ≡ m
-    → place l (ordersIn 0 m s) ≡ placeNo q
-place-is s p q k l n m e f g h = sym (ap (λ i. place l (ordersIn 0 i s)) h) ∙ place-known (ordersIn 0 n s) p q k l e f g
+pub place-is : (s : List ℕ) (p q : Place) (k : Key) (n m : ℕ) → placeNo p ≡ place k (ordersIn 0 n s) → p ≡ q → n ≡ m → place k (ordersIn 0 m s) ≡ placeNo q
+place-is s p q k n m e f h = sym (ap (λ i. place k (ordersIn 0 i s)) h) ∙ place-known (ordersIn 0 n s) p q k k e f refl

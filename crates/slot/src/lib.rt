@@ -6,12 +6,11 @@ mod write;
 
 pub use finding::find;
 pub use finding::find_indexed;
-pub use finding::find_key;
-pub use finding::find_key_indexed;
 pub use finding::keys;
 pub use read::elder_at;
 pub use read::figures_in;
 pub use read::order_at;
+pub use write::put_key;
 pub use write::store;
 
 // What stands before the first slot, a slot, and the key at the beginning of one: its Source, then its Token.

@@ -13,7 +13,7 @@ use order::Key;
 use order::Order;
 use order::Series;
 
-// A key at the front of a slot, or alone.
+// A key, at the front of a slot.
 pub fn put_key(t: &mut [u8], at: usize, k: Key)
     requires { ⌜ at + 26 ≤ length (now t) ⌝ }
     ensures { λ _. ⌜ now (t .exit) ≡ sets (now (t .entry)) at (keyBytes k) ⌝ }

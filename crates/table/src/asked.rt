@@ -9,7 +9,6 @@ use slot::HEADER;
 use slot::KEY;
 use slot::Place;
 use slot::SLOT;
-use slot::offset;
 
 // A key is its Source and its Token, one behind the other, as a slot has them.
 pub fn look_up(t: &[u8], key: &[u8]) -> Found
@@ -21,12 +20,7 @@ pub fn look_up(t: &[u8], key: &[u8]) -> Found
     if key.len() != KEY {
         return Found::Refused(Refusal::UnknownKey);
     }
-    match slot::find(
-        t,
-        header::count(t) as usize,
-        &key[0..offset::TOKEN],
-        &key[offset::TOKEN..KEY],
-    ) {
+    match slot::find(t, header::count(t) as usize, key) {
         Place::At(i) => Found::At(i),
         Place::Nobody => Found::Refused(Refusal::UnknownKey),
     }

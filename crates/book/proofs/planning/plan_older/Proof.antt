@@ -17,23 +17,22 @@ use Rattle.book.proofs.planning.plan_older.Tie as tie
 
 -- ---- where the order stands
 
-found-at : (c : tie.After-known-told) → let a = c .before .before .before .before .before .before .before .before .args in
+found-at : (c : tie.After-known-told) → let a = c .before .before .before .before .before .before .before .args in
     place (subject (a .r)) (tableIn (now (a .t)) .orders) ≡ c .before .i .given .0 .0 + 1
-found-at c = place-known (tableIn (now (c .before .before .before .before .before .before .before .before .args .t)) .orders) _ _ _ _ (c .before .before .before .find .ensures) (c .before .i .given .1) (c .before .before .before .before .subject .ensures)
+found-at c =
+    let a = c .before .before .before .before .before .before .before .args in
+    place-known (tableIn (now (a .t)) .orders) _ _ (subject (a .r)) _ (c .before .before .before .subject .ensures) (c .before .i .given .1) refl
 
-here : (c : tie.After-order-at) → let a = c .before .before .before .before .before .before .before .before .before .args in
+here : (c : tie.After-order-at) → let a = c .before .before .before .before .before .before .before .before .args in
     There (now (a .t)) (subject (a .r)) (c .before .before .i .given .0 .0) (c .order-at .result)
 here c =
-    let start = c .before .before .before .before .before .before .before .before .before in
+    let start = c .before .before .before .before .before .before .before .before in
     there (now (start .args .t)) (subject (start .args .r)) _ _ (start .pre .0) (found-at (c .before)) (c .order-at .ensures)
 
 -- ---- the needs
 
 subject-requires : tie.Need-subject-requires
 subject-requires c κs = search needs
-
-find-requires : tie.Need-find-requires
-find-requires c κs = search needs
 
 enum-known-i : tie.Need-enum-known-i
 enum-known-i c = search needs
@@ -43,15 +42,15 @@ enum-told c = search needs
 
 returns : tie.Need-returns
 returns c =
-    let start = c .before .before .before .before .before .before .before in
+    let start = c .before .before .before .before .before .before in
     let s = now (start .args .t) in
-    let open-day = start .pre .1 .1 in
+    let open-day = start .pre .1 .1 .1 in
     unknown-key s (start .args .r) (open-day .0) (open-day .1 .0) (open-day .1 .1)
-    (nobody-found (subject (start .args .r)) (tableIn s .orders) (place-known (tableIn s .orders) _ _ _ _ (c .before .before .find .ensures) (c .enum-told .given .1) (c .before .before .before .subject .ensures)))
+    (nobody-found (subject (start .args .r)) (tableIn s .orders) (place-known (tableIn s .orders) _ _ (subject (start .args .r)) _ (c .before .before .subject .ensures) (c .enum-told .given .1) refl))
 
 order-at-requires : tie.Need-order-at-requires
 order-at-requires c κs =
-    let start = c .before .before .before .before .before .before .before .before in
+    let start = c .before .before .before .before .before .before .before in
     let s = now (start .args .t) in
     let i = c .before .i .given .0 .0 in
     there s (subject (start .args .r)) i (orderIn (slot s i)) (start .pre .0) (found-at c) refl .inside
@@ -65,8 +64,8 @@ plan-about-requires c κs = here (c .before) .sums
 returns-2 : tie.Need-returns-2
 returns-2 c =
     let o = c .before .before in
-    let start = c .before .before .before .before .before .before .before .before .before .before .before in
-    let open-day = start .pre .1 .1 in
+    let start = o .before .before .before .before .before .before .before .before in
+    let open-day = start .pre .1 .1 .1 in
     plan-is _ _ _ _
     (about (now (start .args .t)) (start .args .r) (open-day .0) (open-day .1 .0) (open-day .1 .1) _ _ (here o .is) (found-at (o .before)) (o .order-at .ensures) (here o .inside) _ (c .before .is-full .ensures))
     (sym (c .plan-about .ensures))
@@ -76,7 +75,6 @@ plan-older-spec =
     tie.close
     (tie.spec
     subject-requires
-    find-requires
     enum-known-i
     enum-told
     returns

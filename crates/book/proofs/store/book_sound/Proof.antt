@@ -1,7 +1,8 @@
 -- `book::store::book_sound` meets its contract.
+use mathlib.Core.Path.{sym}
 use denote.Ref.{now}
 use Rattle.layout.specs.Line.{endOfDay, line}
-use Rattle.book.proofs.Booked.{outcome-is, read-as, unread, end-beside}
+use Rattle.book.proofs.Booked.{named, outcome-is, read-as, unread, end-beside}
 use borrow.Author.Needs.{needs}
 use Rattle.book.proofs.store.book_sound.Statement.{statement}
 use Rattle.book.proofs.store.book_sound.Tie as tie
@@ -19,7 +20,11 @@ enum-told-2 : tie.Need-enum-told-2
 enum-told-2 c = search needs
 
 book-line-requires : tie.Need-book-line-requires
-book-line-requires c κs = search needs
+book-line-requires c κs =
+    let start = c .before .before .before .before .before .before .before .before .before .before in
+    let piece = now (start .args .piece) in
+    let said = outcome-is piece _ _ _ (c .before .before .before .enum-told2 .given .1) (c .before .before .before .before .before .read-in .ensures .said) in
+    (search needs, (search needs, named piece (c .before .before .before .before .before .read-in .result .line) (sym said)))
 
 enum-known-outcome : tie.Need-enum-known-outcome
 enum-known-outcome c = search needs

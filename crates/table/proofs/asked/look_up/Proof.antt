@@ -1,5 +1,5 @@
 -- `table::asked::look_up` meets its contract.
-use mathlib.Core.Path.{refl, sym, _∙_}
+use mathlib.Core.Path.{sym, _∙_}
 use native.Mathlib.Omega.{arith}
 use borrow.Author.Tests.{not-true, not-false}
 use borrow.Author.Needs.{needs}
@@ -26,29 +26,11 @@ returns-2 c =
 count-requires : tie.Need-count-requires
 count-requires c κs = header-there (now (c .before .before .before .before .before .args .t)) (sym (c .before .before .is-sound .ensures) ∙ not-false _ (c .before .if1 .left))
 
-sub-find : tie.Need-sub-find
-sub-find c = search needs
-
-part-find-start : tie.Need-part-find-start
-part-find-start c = search needs
-
-part-find-end : tie.Need-part-find-end
-part-find-end c = search needs
-
-sub-find-2 : tie.Need-sub-find-2
-sub-find-2 c = search needs
-
-part-find-start-2 : tie.Need-part-find-start-2
-part-find-start-2 c = search needs
-
-part-find-end-2 : tie.Need-part-find-end-2
-part-find-end-2 c = search needs
-
 find-requires : tie.Need-find-requires
 find-requires c κs =
-    let a = c .before .before .before .before .before .before .before .before .args in
-    let there = slots-there (now (a .t)) (sym (c .before .before .before .before .before .is-sound .ensures) ∙ not-false _ (c .before .before .before .before .if1 .left)) in
-    (omega (arith, c .before .before .count .ensures, there), (search needs, search needs))
+    let a = c .before .before .before .before .before .before .args in
+    let there = slots-there (now (a .t)) (sym (c .before .before .before .is-sound .ensures) ∙ not-false _ (c .before .before .if1 .left)) in
+    (omega (arith, c .count .ensures, there), search needs)
 
 enum-known-i : tie.Need-enum-known-i
 enum-known-i c = search needs
@@ -58,15 +40,15 @@ enum-told c = search needs
 
 returns-3 : tie.Need-returns-3
 returns-3 c =
-    let a = c .before .before .before .before .before .before .before .before .before .before .before .before .args in
-    found-at (now (a .t)) (now (a .key)) (sym (c .before .before .before .before .before .before .before .before .before .is-sound .ensures) ∙ not-false _ (c .before .before .before .before .before .before .before .before .if1 .left)) (c .before .before .before .before .before .before .before .if2 .left) _
-    (place-is (now (a .t)) _ _ _ _ _ _ (c .before .before .before .find .ensures) (c .before .i .given .1) refl (c .before .before .before .before .before .before .count .ensures))
+    let a = c .before .before .before .before .before .before .before .before .before .before .args in
+    found-at (now (a .t)) (now (a .key)) (sym (c .before .before .before .before .before .before .before .is-sound .ensures) ∙ not-false _ (c .before .before .before .before .before .before .if1 .left)) (c .before .before .before .before .before .if2 .left) _
+    (place-is (now (a .t)) _ _ _ _ _ (c .before .before .before .find .ensures) (c .before .i .given .1) (c .before .before .before .before .count .ensures))
 
 returns-4 : tie.Need-returns-4
 returns-4 c =
-    let a = c .before .before .before .before .before .before .before .before .before .before .before .args in
-    found-nowhere (now (a .t)) (now (a .key)) (sym (c .before .before .before .before .before .before .before .before .is-sound .ensures) ∙ not-false _ (c .before .before .before .before .before .before .before .if1 .left)) (c .before .before .before .before .before .before .if2 .left)
-    (place-is (now (a .t)) _ _ _ _ _ _ (c .before .before .find .ensures) (c .enum-told .given .1) refl (c .before .before .before .before .before .count .ensures))
+    let a = c .before .before .before .before .before .before .before .before .before .args in
+    found-nowhere (now (a .t)) (now (a .key)) (sym (c .before .before .before .before .before .before .is-sound .ensures) ∙ not-false _ (c .before .before .before .before .before .if1 .left)) (c .before .before .before .before .if2 .left)
+    (place-is (now (a .t)) _ _ _ _ _ (c .before .before .find .ensures) (c .enum-told .given .1) (c .before .before .before .count .ensures))
 
 pub look-up-spec : {M : Type 1} → statement M
 look-up-spec =
@@ -76,12 +58,6 @@ look-up-spec =
     returns
     returns-2
     count-requires
-    sub-find
-    part-find-start
-    part-find-end
-    sub-find-2
-    part-find-start-2
-    part-find-end-2
     find-requires
     enum-known-i
     enum-told

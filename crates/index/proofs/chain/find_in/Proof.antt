@@ -1,11 +1,8 @@
--- `index::chain::find` meets its contract: where the chain is too long to walk, the scan has the same promise.
+-- `index::chain::find_in` meets its contract: where the chain is too long to walk, the scan has the same promise.
 use Rattle.index.proofs.Chains.{walk-found}
 use borrow.Author.Needs.{needs}
-use Rattle.index.proofs.chain.find.Statement.{statement}
-use Rattle.index.proofs.chain.find.Tie as tie
-
-bucket-requires : tie.Need-bucket-requires
-bucket-requires c κs = search needs
+use Rattle.index.proofs.chain.find_in.Statement.{statement}
+use Rattle.index.proofs.chain.find_in.Tie as tie
 
 walk-requires : tie.Need-walk-requires
 walk-requires c κs = search needs
@@ -25,7 +22,7 @@ returns c = walk-found _ _ _ (c .before .before .before .walk .ensures) (c .befo
 returns-2 : tie.Need-returns-2
 returns-2 c = search needs
 
-pub find-spec : {M : Type 1} → statement M
-find-spec =
+pub find-in-spec : {M : Type 1} → statement M
+find-in-spec =
     tie.close
-    (tie.spec bucket-requires walk-requires enum-known-sought enum-told scan-requires returns returns-2)
+    (tie.spec walk-requires enum-known-sought enum-told scan-requires returns returns-2)
