@@ -1,5 +1,5 @@
 // The earliest record with a key, by an index beside the records: for each bucket the latest of its records, and for each record the one before it in its bucket.
-// A lookup walks a short way down its chain, and goes over to a scan where that does not end it: keys that all fall into one bucket cost no more than the scan.
+// A lookup walks a short way down its chain, and goes over to a scan where that does not end it: keys that all fall into one bucket cost that way and the scan.
 mod building;
 mod chain;
 mod differing;
