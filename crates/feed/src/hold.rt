@@ -68,7 +68,7 @@ pub fn book_held(
     ensures { λ _. ⌜ now (t .exit) ≡ bookBytes (now (t .entry)) (heldIn (now (hold .entry)) held) ⌝ }
     ensures { λ _. ⌜ Beside (now (t .exit)) (now (heads .exit)) (now (nexts .exit)) ⌝ }
 {
-    // The parts came from several chunks: no pass has looked at them as one piece.
+    // Nobody has looked through what is held as one piece.
     book_piece(t, heads, nexts, &hold[0..held], false, line, out)
 }
 

@@ -36,7 +36,7 @@ module _ (text : List ℕ) (at end : ℕ) (more : at < length text) (e : end ≡
       ∙ ap (λ k. take k (drop at text) ∷ pieces (drop (at + pieceLength (drop at text)) text)) n
       ∙ ap (λ k. part text at end ∷ pieces (drop k text)) (sym e)
 
--- of a plain piece, the lent part is printable as far as the text is
+-- what is lent of a plain piece is printable but for its last two bytes
 pub plain-lent : (text : List ℕ) (at end : ℕ) → end ≡ at + pieceLength (drop at text) → Plain (drop at text)
     → all (isOf Printable) (take 138 (part text at end)) ≡ true
 plain-lent text at end e p =
