@@ -13,6 +13,7 @@ use Rattle.message.specs.Rule.{verbatim, text, run, lawful}
 use Rattle.layout.specs.Layout.{sides, months, denominators}
 use Rattle.layout.specs.Strikes.{lawfulStrike}
 use Rattle.order.specs.declared.Figures.{Figures}
+use Rattle.order.specs.declared.Key.{Key}
 use Rattle.order.specs.declared.Order.{Order}
 use Rattle.order.specs.declared.Series.{Series}
 use Rattle.run.proofs.Tests.{same-test}
@@ -21,6 +22,10 @@ use Rattle.order.specs.Stored.{lawfulKey, lawfulSeries, soundFigures, so
 
 pub text-lawful : (w : ℕ) (b : List ℕ) (r : Bool) → length b ≡ w → r ≡ isText b → r ≡ lawful (verbatim text) w (run b)
 text-lawful w b r h e = rw (eq-eqb (length b) w h) e
+
+pub key-lawful : (k : Key) (a b : Bool) → a ≡ lawful (verbatim text) 6 (run (k .source)) → b ≡ lawful (verbatim text) 20 (run (k .token))
+    → (a && b) ≡ lawfulKey k
+key-lawful k a b p q = rw (p, q)
 
 pub series-lawful : (s : Series) (a b c d e f : Bool) → a ≡ lawful (verbatim text) 6 (run (s .root)) → b ≡ member (s .month) months
     → c ≡ (leb 1 (s .date) && leb (s .date) 31) → d ≡ (leb 0 (s .year) && leb (s .year) 99) → e ≡ member (s .denominator) denominators

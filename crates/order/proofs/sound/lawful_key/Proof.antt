@@ -1,6 +1,6 @@
 -- `order::lawful_key` meets its contract.
 use borrow.Author.Needs.{needs}
-use Rattle.order.proofs.Stored.{text-lawful}
+use Rattle.order.proofs.Stored.{text-lawful, key-lawful}
 use Rattle.order.proofs.sound.lawful_key.Statement.{statement}
 use Rattle.order.proofs.sound.lawful_key.Tie as tie
 
@@ -19,9 +19,7 @@ is-text-requires-2 c κs = search needs
 returns : tie.Need-returns
 returns c =
     let k = c .before .before .before .before .before .before .args .k in
-    let source = text-lawful 6 (k .source) _ (search needs) (c .before .before .is-text .ensures) in
-    let token = text-lawful 20 (k .token) _ (search needs) (c .is-text2 .ensures) in
-    cc
+    key-lawful k _ _ (text-lawful 6 (k .source) _ (search needs) (c .before .before .is-text .ensures)) (text-lawful 20 (k .token) _ (search needs) (c .is-text2 .ensures))
 
 pub lawful-key-spec : {M : Type 1} → statement M
 lawful-key-spec =
