@@ -27,7 +27,7 @@ use Rattle.layout.proofs.Values.{record-fields}
 
 pub end-read : (s : List ℕ) → s ≡ crlf → read s ≡ value endOfDay
 unfolding read
-end-read s e = rw e
+end-read s e = ap read e
 
 pub no-line-read : (s : List ℕ) → (s ≡ crlf → ⊥) → isLine s ≡ false → read s ≡ refused 1 0
 unfolding read
