@@ -69,13 +69,13 @@ add-result-3 : tie.Need-add-result-3
 add-result-3 c =
     let a = c .before .before .before .before .before .before .before .before .args in
     let left = c .unpadded .ensures .0 in
-    search (needs, left, decimal-most (a .family), decimal-most (a .rank), figures-most (c .before .before .before .before .before .figures-in .result), token-most (now (a .t)) (a .i))
+    omega (arith, left, decimal-most (a .family), decimal-most (a .rank), figures-most (c .before .before .before .before .before .figures-in .result), token-most (now (a .t)) (a .i))
 
 add-result-4 : tie.Need-add-result-4
 add-result-4 c =
     let a = c .before .before .before .before .before .before .before .before .args in
     let left = c .unpadded .ensures .0 in
-    search (needs, left, decimal-most (a .family), decimal-most (a .rank), figures-most (c .before .before .before .before .before .figures-in .result), token-most (now (a .t)) (a .i))
+    omega (arith, left, decimal-most (a .family), decimal-most (a .rank), figures-most (c .before .before .before .before .before .figures-in .result), token-most (now (a .t)) (a .i))
 
 returns : tie.Need-returns
 returns c =

@@ -1,5 +1,6 @@
 -- `row::write` meets its contract: three texts, one right behind the other, from the parts of the table that are lent.
 use native.Mathlib.Omega.{arith}
+use mathlib.Core.Path.{_∙_}
 use borrow.Author.Needs.{needs}
 use denote.Ref.{now}
 use Rattle.slot.specs.Slots.{orderIn}
@@ -37,10 +38,11 @@ figures-in-requires c κs = search needs
 
 put-figures-requires : tie.Need-put-figures-requires
 put-figures-requires c κs =
-    let a = c .before .before .before .before .before .before .before .before .before .args in
+    let start = c .before .before .before .before .before .before .before .before .before in
+    let a = start .args in
     let figures = c .figures-in in
     let rank = c .before .before .before .before .before .put-rank in
-    figures-room (now (a .t)) (a .i) (a .family) (a .rank) (figures .result) (figures .ensures) (rank .result) _ (rank .ensures .end) (search needs)
+    figures-room (now (a .t)) (a .i) (a .family) (a .rank) (figures .result) (figures .ensures) (rank .result) _ (rank .ensures .end) (omega (arith, start .pre .1, rank .kept .0))
 
 add-put-names : tie.Need-add-put-names
 add-put-names c = search needs
@@ -71,14 +73,15 @@ part-put-names-end-2 c = search needs
 
 put-names-requires : tie.Need-put-names-requires
 put-names-requires c κs =
-    let a = c .before .before .before .before .before .before .before .before .before .before .before .before .before .before .before .args in
+    let start = c .before .before .before .before .before .before .before .before .before .before .before .before .before .before .before in
+    let a = start .args in
     let figures = c .before .before .before .before .before .before .figures-in in
     let rank = c .before .before .before .before .before .before .before .before .before .before .before .put-rank in
     let put = c .before .before .before .before .before .put-figures in
-    names-room (now (a .t)) (a .i) (a .family) (a .rank) (figures .result) (figures .ensures) (rank .result) (put .result) _ (rank .ensures .end) (put .ensures .end) (omega (arith, c .before .before .before .before .before .before .before .before .before .before .before .before .before .before .before .pre))
+    names-room (now (a .t)) (a .i) (a .family) (a .rank) (figures .result) (figures .ensures) (rank .result) (put .result) _ (rank .ensures .end) (put .ensures .end) (omega (arith, start .pre .1, rank .kept .0, put .kept .0))
 
 same-length : tie.Need-same-length
-same-length c = search needs
+same-length c = c .before .before .put-names .kept .0 ∙ c .before .before .before .before .before .before .before .before .put-figures .kept .0 ∙ c .before .before .before .before .before .before .before .before .before .before .before .before .before .before .put-rank .kept .0
 
 returns : tie.Need-returns
 returns c =
