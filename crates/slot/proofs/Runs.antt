@@ -1,5 +1,6 @@
 -- Runs that are stored one right behind the other are one run; how wide the runs of an order are.
 use Prim.Native.Nat.{ℕ, _+_}
+use native.Mathlib.Omega.{arith}
 use mathlib.Core.Path.{_≡_, refl, _∙_}
 use mathlib.Core.List.{List, [], _∷_, _++_}
 use lib.ListN.{length, length-append}
@@ -7,10 +8,11 @@ use lib.Seq.{sets}
 use Rattle.cell.specs.Cells.{leBytes}
 use Rattle.run.proofs.Stores.{sets-append}
 use Rattle.cell.proofs.Laws.{length-le}
+use Rattle.order.specs.declared.Figures.{Figures}
 use Rattle.order.specs.declared.Key.{Key}
 use Rattle.order.specs.declared.Order.{Order}
 use Rattle.order.specs.declared.Series.{Series}
-use Rattle.slot.specs.Slots.{keyBytes, expiryBytes, seriesBytes, termsBytes}
+use Rattle.slot.specs.Slots.{keyBytes, expiryBytes, seriesBytes, tradedBytes, figuresBytes, termsBytes, slotBytes}
 
 -- ---- runs of stores
 
@@ -38,11 +40,50 @@ then {before = l} {at = at} {w = w} {xs = xs} {ys = ys} a b e =
 pub length-key : (k : Key) → length (k .source) ≡ 6 → length (k .token) ≡ 20 → length (keyBytes k) ≡ 26
 length-key k e t = rw (length-append, e, t)
 
-pub length-expiry : (s : Series) → length (s .root) ≡ 6 → length (expiryBytes s) ≡ 9
+length-expiry : (s : Series) → length (s .root) ≡ 6 → length (expiryBytes s) ≡ 9
 length-expiry s e = simp (length-append, e)
 
-pub length-series : (s : Series) → length (s .root) ≡ 6 → length (seriesBytes s) ≡ 14
+length-series : (s : Series) → length (s .root) ≡ 6 → length (seriesBytes s) ≡ 14
 length-series s e = simp (length-append, e)
 
-pub length-terms : (o : Order) → length (o .key .source) ≡ 6 → length (o .key .token) ≡ 20 → length (o .series .root) ≡ 6 → length (termsBytes o) ≡ 49
+length-terms : (o : Order) → length (o .key .source) ≡ 6 → length (o .key .token) ≡ 20 → length (o .series .root) ≡ 6 → length (termsBytes o) ≡ 49
 length-terms o a b d = simp (length-append, a, b, d)
+
+-- ---- an order, run by run
+
+pub expiry-stored : (s : Series) (at : ℕ) (l₀ : List ℕ) {l₁ l₂ l₃ l₄ : List ℕ} → length (s .root) ≡ 6 → l₁ ≡ sets l₀ (at + 27) (s .root)
+    → l₂ ≡ sets l₁ (at + 33) (s .month ∷ []) → l₃ ≡ sets l₂ (at + 34) (leBytes 1 (s .date)) → l₄ ≡ sets l₃ (at + 35) (leBytes 1 (s .year))
+    → l₄ ≡ sets l₀ (at + 27) (expiryBytes s)
+expiry-stored s at l₀ {l₁} wide root month date year =
+    let first : Stored l₀ (at + 27) 6 (s .root) l₁ = record { wide = wide; stored = root } in
+    then (then (then first (byte (s .month) month) (omega arith)) (number 1 (s .date) date) (omega arith)) (number 1 (s .year) year) (omega arith) .stored
+
+pub series-stored : (s : Series) (at : ℕ) (l₀ : List ℕ) {l₁ l₂ l₃ : List ℕ} → length (s .root) ≡ 6 → l₁ ≡ sets l₀ (at + 27) (expiryBytes s)
+    → l₂ ≡ sets l₁ (at + 36) (s .denominator ∷ []) → l₃ ≡ sets l₂ (at + 37) (leBytes 4 (s .strike)) → l₃ ≡ sets l₀ (at + 27) (seriesBytes s)
+series-stored s at l₀ {l₁} wide expiry denominator strike =
+    let first : Stored l₀ (at + 27) 9 (expiryBytes s) l₁ = record { wide = length-expiry s wide; stored = expiry } in
+    then (then first (byte (s .denominator) denominator) (omega arith)) (number 4 (s .strike) strike) (omega arith) .stored
+
+module _ (o : Order) (at : ℕ) (l₀ : List ℕ) {l₁ l₂ l₃ l₄ : List ℕ} (source : length (o .key .source) ≡ 6) (token : length (o .key .token) ≡ 20)
+    (root : length (o .series .root) ≡ 6) where
+  pub terms-stored : l₁ ≡ sets l₀ at (keyBytes (o .key)) → l₂ ≡ sets l₁ (at + 26) (o .side ∷ [])
+      → l₃ ≡ sets l₂ (at + 27) (seriesBytes (o .series)) → l₄ ≡ sets l₃ (at + 41) (leBytes 8 (o .price)) → l₄ ≡ sets l₀ at (termsBytes o)
+  terms-stored key side series price =
+      let first : Stored l₀ at 26 (keyBytes (o .key)) l₁ = record { wide = length-key (o .key) source token; stored = key } in
+      let third : Stored l₂ (at + 27) 14 (seriesBytes (o .series)) l₃ = record { wide = length-series (o .series) root; stored = series } in
+      then (then (then first (byte (o .side) side) refl) third (omega arith)) (number 8 (o .price) price) (omega arith) .stored
+
+  pub order-stored : l₁ ≡ sets l₀ at (termsBytes o) → l₂ ≡ sets l₁ (at + 49) (leBytes 2 (o .elder))
+      → l₃ ≡ sets l₂ (at + 51) (figuresBytes (o .figures)) → l₄ ≡ sets l₃ (at + 75) (leBytes 5 0) → l₄ ≡ sets l₀ at (slotBytes o)
+  order-stored terms elder figures rest =
+      let first : Stored l₀ at 49 (termsBytes o) l₁ = record { wide = length-terms o source token root; stored = terms } in
+      let third : Stored l₂ (at + 51) 24 (figuresBytes (o .figures)) l₃ = record { wide = refl; stored = figures } in
+      then (then (then first (number 2 (o .elder) elder) refl) third (omega arith)) (number 5 0 rest) (omega arith) .stored
+
+pub figures-stored : (f : Figures) (at : ℕ) (l₀ : List ℕ) {l₁ l₂ l₃ l₄ : List ℕ} → l₁ ≡ sets l₀ (at + 51) (tradedBytes f)
+    → l₂ ≡ sets l₁ (at + 63) (leBytes 4 (f .cancelled)) → l₃ ≡ sets l₂ (at + 67) (leBytes 4 (f .passed))
+    → l₄ ≡ sets l₃ (at + 71) (leBytes 4 (f .«open»)) → l₄ ≡ sets l₀ (at + 51) (figuresBytes f)
+figures-stored f at l₀ {l₁} traded cancelled passed left =
+    let first : Stored l₀ (at + 51) 12 (tradedBytes f) l₁ = record { wide = refl; stored = traded } in
+    then (then (then first (number 4 (f .cancelled) cancelled) (omega arith)) (number 4 (f .passed) passed) (omega arith)) (number 4 (f .«open») left) (omega arith)
+    .stored

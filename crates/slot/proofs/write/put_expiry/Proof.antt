@@ -2,8 +2,9 @@
 use mathlib.Core.Path.{_≡_}
 use native.Mathlib.Omega.{arith}
 use borrow.Author.Needs.{needs}
+use denote.Ref.{now}
 use lib.ListN.{length}
-use Rattle.slot.proofs.Runs.{Stored, byte, number, then}
+use Rattle.slot.proofs.Runs.{expiry-stored}
 use Rattle.slot.proofs.write.put_expiry.Statement.{statement}
 use Rattle.slot.proofs.write.put_expiry.Tie as tie
 
@@ -41,17 +42,13 @@ same-length c = search needs
 
 returns : tie.Need-returns
 returns c =
-    let s = c .before .before .before .before .before .before .before .before .before .before .before .before .before .before .before .before .before .before .before .args .s in
-    let wide : length (s .root) ≡ 6 = search needs in
+    let a = c .before .before .before .before .before .before .before .before .before .before .before .before .before .before .before .before .before .before .before .args in
+    let wide : length (a .s .root) ≡ 6 = search needs in
     let fourth = c .before .before in
     let third = fourth .before .before .before .before in
     let second = third .before .before .before .before in
     let first = second .before .before .before .before in
-    let root : Stored _ _ 6 (s .root) _ = record { wide = wide; stored = first .store .ensures } in
-    let month = byte (s .month) (second .byte .ensures) in
-    let date = number 1 (s .date) (third .put .ensures) in
-    let year = number 1 (s .year) (fourth .put2 .ensures) in
-    then (then (then root month (omega arith)) date (omega arith)) year (omega arith) .stored
+    expiry-stored (a .s) (a .at) (now (a .t)) wide (first .store .ensures) (second .byte .ensures) (third .put .ensures) (fourth .put2 .ensures)
 
 pub put-expiry-spec : {M : Type 1} → statement M
 put-expiry-spec =

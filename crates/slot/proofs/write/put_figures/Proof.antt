@@ -1,11 +1,7 @@
 -- `slot::write::put_figures` meets its contract.
-use Prim.Native.Nat.{_+_}
-use native.Mathlib.Omega.{arith}
-use mathlib.Core.Path.{refl}
 use borrow.Author.Needs.{needs}
 use denote.Ref.{now}
-use Rattle.slot.specs.Slots.{tradedBytes}
-use Rattle.slot.proofs.Runs.{Stored, number, then}
+use Rattle.slot.proofs.Runs.{figures-stored}
 use Rattle.slot.proofs.write.put_figures.Statement.{statement}
 use Rattle.slot.proofs.write.put_figures.Tie as tie
 
@@ -40,11 +36,7 @@ returns c =
     let second = third .before .before .before .before in
     let first = second .before .before .before .before in
     let a = first .before .before .before .args in
-    let traded : Stored (now (a .t)) (a .at + 51) 12 (tradedBytes (a .f)) _ = record { wide = refl; stored = first .put-traded .ensures } in
-    let cancelled = number 4 (a .f .cancelled) (second .put .ensures) in
-    let passed = number 4 (a .f .passed) (third .put2 .ensures) in
-    let left = number 4 (a .f .«open») (fourth .put3 .ensures) in
-    then (then (then traded cancelled (omega arith)) passed (omega arith)) left (omega arith) .stored
+    figures-stored (a .f) (a .at) (now (a .t)) (first .put-traded .ensures) (second .put .ensures) (third .put2 .ensures) (fourth .put3 .ensures)
 
 pub put-figures-spec : {M : Type 1} → statement M
 put-figures-spec =

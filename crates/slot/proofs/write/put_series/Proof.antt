@@ -1,8 +1,9 @@
 -- `slot::write::put_series` meets its contract.
-use native.Mathlib.Omega.{arith}
+use mathlib.Core.Path.{_≡_}
+use lib.ListN.{length}
 use borrow.Author.Needs.{needs}
-use Rattle.slot.specs.Slots.{expiryBytes}
-use Rattle.slot.proofs.Runs.{Stored, byte, number, then, length-expiry}
+use denote.Ref.{now}
+use Rattle.slot.proofs.Runs.{series-stored}
 use Rattle.slot.proofs.write.put_series.Statement.{statement}
 use Rattle.slot.proofs.write.put_series.Tie as tie
 
@@ -26,15 +27,12 @@ same-length c = search needs
 
 returns : tie.Need-returns
 returns c =
-    let s = c .before .before .before .before .before .before .before .before .before .before .before .before .before .args .s in
-    let wide = length-expiry s (search needs) in
+    let a = c .before .before .before .before .before .before .before .before .before .before .before .before .before .args in
+    let wide : length (a .s .root) ≡ 6 = search needs in
     let third = c .before .before in
     let second = third .before .before .before .before in
     let first = second .before .before .before .before in
-    let expiry : Stored _ _ 9 (expiryBytes s) _ = record { wide = wide; stored = first .put-expiry .ensures } in
-    let denominator = byte (s .denominator) (second .byte .ensures) in
-    let strike = number 4 (s .strike) (third .put .ensures) in
-    then (then expiry denominator (omega arith)) strike (omega arith) .stored
+    series-stored (a .s) (a .at) (now (a .t)) wide (first .put-expiry .ensures) (second .byte .ensures) (third .put .ensures)
 
 pub put-series-spec : {M : Type 1} → statement M
 put-series-spec =

@@ -1,8 +1,9 @@
 -- `slot::write::put_terms` meets its contract.
-use native.Mathlib.Omega.{arith}
+use mathlib.Core.Path.{_≡_}
+use lib.ListN.{length}
 use borrow.Author.Needs.{needs}
-use Rattle.slot.specs.Slots.{keyBytes, seriesBytes}
-use Rattle.slot.proofs.Runs.{Stored, byte, number, then, length-key, length-series}
+use denote.Ref.{now}
+use Rattle.slot.proofs.Runs.{terms-stored}
 use Rattle.slot.proofs.write.put_terms.Statement.{statement}
 use Rattle.slot.proofs.write.put_terms.Tie as tie
 
@@ -30,19 +31,16 @@ same-length c = search needs
 returns : tie.Need-returns
 returns c =
     let start = c .before .before .before .before .before .before .before .before .before .before .before .before .before .before .before .before .before in
-    let o = start .args .o in
+    let a = start .args in
     let good = start .good .1 .1 .0 in
-    let wide-key = length-key (o .key) (search (needs, good)) (search (needs, good)) in
-    let wide-series = length-series (o .series) (search (needs, good)) in
+    let source : length (a .o .key .source) ≡ 6 = search (needs, good) in
+    let token : length (a .o .key .token) ≡ 20 = search (needs, good) in
+    let root : length (a .o .series .root) ≡ 6 = search (needs, good) in
     let fourth = c .before .before in
     let third = fourth .before .before .before .before in
     let second = third .before .before .before .before in
     let first = second .before .before .before .before in
-    let key : Stored _ _ 26 (keyBytes (o .key)) _ = record { wide = wide-key; stored = first .put-key .ensures } in
-    let side = byte (o .side) (second .byte .ensures) in
-    let series : Stored _ _ 14 (seriesBytes (o .series)) _ = record { wide = wide-series; stored = third .put-series .ensures } in
-    let price = number 8 (o .price) (fourth .put .ensures) in
-    then (then (then key side (omega arith)) series (omega arith)) price (omega arith) .stored
+    terms-stored (a .o) (a .at) (now (a .t)) source token root (first .put-key .ensures) (second .byte .ensures) (third .put-series .ensures) (fourth .put .ensures)
 
 pub put-terms-spec : {M : Type 1} → statement M
 put-terms-spec =

@@ -1,9 +1,10 @@
 -- `slot::write::store` meets its contract.
-use native.Mathlib.Omega.{arith}
-use mathlib.Core.Path.{refl}
+use mathlib.Core.Path.{_≡_}
+use lib.ListN.{length}
 use borrow.Author.Needs.{needs}
-use Rattle.slot.specs.Slots.{termsBytes, figuresBytes}
-use Rattle.slot.proofs.Runs.{Stored, number, then, length-terms}
+use denote.Ref.{now}
+use Rattle.slot.specs.Places.{slotAt}
+use Rattle.slot.proofs.Runs.{order-stored}
 use Rattle.slot.proofs.write.store.Statement.{statement}
 use Rattle.slot.proofs.write.store.Tie as tie
 
@@ -37,18 +38,16 @@ same-length c = search needs
 returns : tie.Need-returns
 returns c =
     let start = c .before .before .before .before .before .before .before .before .before .before .before .before .before .before .before .before .before in
-    let o = start .args .o in
+    let a = start .args in
     let good = start .good .1 .1 .0 in
-    let wide = length-terms o (search (needs, good)) (search (needs, good)) (search (needs, good)) in
+    let source : length (a .o .key .source) ≡ 6 = search (needs, good) in
+    let token : length (a .o .key .token) ≡ 20 = search (needs, good) in
+    let root : length (a .o .series .root) ≡ 6 = search (needs, good) in
     let fourth = c .before .before in
     let third = fourth .before .before .before .before in
     let second = third .before .before .before .before in
     let first = second .before .before .before .before in
-    let terms : Stored _ _ 49 (termsBytes o) _ = record { wide = wide; stored = first .put-terms .ensures } in
-    let elder = number 2 (o .elder) (second .put .ensures) in
-    let figures : Stored _ _ 24 (figuresBytes (o .figures)) _ = record { wide = refl; stored = third .put-figures .ensures } in
-    let rest = number 5 0 (fourth .put2 .ensures) in
-    then (then (then terms elder (omega arith)) figures (omega arith)) rest (omega arith) .stored
+    order-stored (a .o) (slotAt (a .i)) (now (a .t)) source token root (first .put-terms .ensures) (second .put .ensures) (third .put-figures .ensures) (fourth .put2 .ensures)
 
 pub store-spec : {M : Type 1} → statement M
 store-spec =
