@@ -77,6 +77,17 @@ pub fn text_or_blank(s: &[u8]) -> Bytes
     blank(s)
 }
 
+// As `text_in` beside `text`.
+pub fn text_or_blank_in(s: &[u8]) -> Bytes
+    requires { ⌜ all (isOf Printable) (now s) ≡ true ⌝ }
+    ensures { λ r. ⌜ r ≡ lawfulIf (isTextOrBlank (now (s .entry))) ⌝ }
+{
+    let Bytes::Unlawful = text_in(s) else {
+        return Bytes::Lawful;
+    };
+    blank(s)
+}
+
 pub fn digits_or_blank(s: &[u8]) -> Bytes
     ensures { λ r. ⌜ r ≡ lawfulIf (isDigitsOrBlank (now (s .entry))) ⌝ }
 {

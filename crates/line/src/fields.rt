@@ -211,7 +211,7 @@ fn account_fields(s: &[u8]) -> Group
     requires { ⌜ printable (now s) ≡ true ⌝ }
     ensures { λ r. ⌜ Says 6 12 withNone (now (s .entry)) r ⌝ }
 {
-    let Bytes::Lawful = verbatim::text_or_blank(&s[16..20]) else {
+    let Bytes::Lawful = verbatim::text_or_blank_in(&s[16..20]) else {
         return Group::Refused(Refusal::Field(7));
     };
     let Bytes::Lawful = verbatim::digits_or_blank(&s[20..25]) else {

@@ -25,7 +25,7 @@ piece-7 c = now (c .before .before .before .before .before .args .s)
 past-7 : (c : tie.After-enum-told) (n : Numbers) (x : Reading) → x ≡ readingFrom 7 n (piece-7 c) → x ≡ readingFrom 6 n (piece-7 c)
 past-7 c n x e =
     let s = piece-7 c in
-    past 6 n s x (lit< tt) (kind-good textOrBlank (part s 16 4) _ (c .before .before .text-or-blank .ensures) (c .enum-told .given .1)) e
+    past 6 n s x (lit< tt) (kind-good textOrBlank (part s 16 4) _ (c .before .before .text-or-blank-in .ensures) (c .enum-told .given .1)) e
 
 abbrev piece-8 : tie.After-enum-told3 → List ℕ
 piece-8 c = piece-7 (c .before .before .before .before)
@@ -72,17 +72,17 @@ past-12 c n x e =
     past-11 (c .before .before .before .before .before .before) n x
     (past 11 n s x (lit< tt) (kind-on-good (eqb (getD s 8 0) 85) text (part s 56 20) _ (c .before .before .replaced .ensures ∙ ap (λ (t : Bool). bytesOn t (verbatim text) (part s 56 20)) (c .before .before .before .is-replace .ensures)) (c .enum-told11 .given .1)) e)
 
-sub-text-or-blank : tie.Need-sub-text-or-blank
-sub-text-or-blank c = search needs
+sub-text-or-blank-in : tie.Need-sub-text-or-blank-in
+sub-text-or-blank-in c = search needs
 
-part-text-or-blank-start : tie.Need-part-text-or-blank-start
-part-text-or-blank-start c = search needs
+part-text-or-blank-in-start : tie.Need-part-text-or-blank-in-start
+part-text-or-blank-in-start c = search needs
 
-part-text-or-blank-end : tie.Need-part-text-or-blank-end
-part-text-or-blank-end c = search needs
+part-text-or-blank-in-end : tie.Need-part-text-or-blank-in-end
+part-text-or-blank-in-end c = search needs
 
-text-or-blank-requires : tie.Need-text-or-blank-requires
-text-or-blank-requires c κs = search needs
+text-or-blank-in-requires : tie.Need-text-or-blank-in-requires
+text-or-blank-in-requires c κs = let start = c .before .before in printable-field (now (start .args .s)) 16 4 (lit< tt) (start .pre .1)
 
 enum-told : tie.Need-enum-told
 enum-told c = search needs
@@ -93,7 +93,7 @@ enum-told-2 c = search needs
 returns : tie.Need-returns
 returns c n =
     let s = now (c .before .before .before .before .before .args .s) in
-    stops 6 n s _ (lit< tt) (kind-bad textOrBlank (part s 16 4) _ (c .before .before .text-or-blank .ensures) (c .enum-told2 .given .1)) refl
+    stops 6 n s _ (lit< tt) (kind-bad textOrBlank (part s 16 4) _ (c .before .before .text-or-blank-in .ensures) (c .enum-told2 .given .1)) refl
 
 sub-digits-or-blank : tie.Need-sub-digits-or-blank
 sub-digits-or-blank c = search needs
@@ -226,10 +226,10 @@ pub account-fields-spec : {M : Type 1} → statement M
 account-fields-spec =
     tie.close
     (tie.spec
-    sub-text-or-blank
-    part-text-or-blank-start
-    part-text-or-blank-end
-    text-or-blank-requires
+    sub-text-or-blank-in
+    part-text-or-blank-in-start
+    part-text-or-blank-in-end
+    text-or-blank-in-requires
     enum-told
     enum-told-2
     returns
