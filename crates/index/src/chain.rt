@@ -10,7 +10,7 @@ use crate::tag;
 use section::Section;
 
 // How far down a chain is walked. By a good tag it is far shorter; where bad luck or malice made it longer, a scan is the cheaper way to the earliest.
-const LINKS: usize = 16;
+const LINKS: usize = 4;
 
 // Down the chain of bucket b, the key's own. It goes from later records to earlier ones, so the last hit is the earliest once the chain ends.
 fn walk(
