@@ -16,7 +16,7 @@ pub use entry::enter;
 pub use scanning::scan;
 pub use tag::bucket;
 
-// The buckets of an index of 512 keys, four for a key: by a number known here the remainder of a tag costs no division.
+// The buckets of an index of 512 keys, four for a key: by a number known here a bucket is found without a division.
 pub const USUAL: usize = 2048;
 
 // What a walk found: one more than the earliest record with the key, or 0; or a chain too long to walk.
