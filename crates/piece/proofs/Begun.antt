@@ -2,13 +2,14 @@
 use Prim.Native.Nat.{ℕ, _+_, _-_, _≤_}
 use native.Mathlib.Omega.{arith}
 use mathlib.Core.Path.{_≡_, refl, sym, ap, _∙_}
-use mathlib.Core.Bool.{Bool, true, false, _||_, and-eq-true-iff}
+use mathlib.Core.Bool.{Bool, true, false, _&&_, _||_, and-eq-true-iff}
 use mathlib.Core.List.{List, [], _∷_, _++_, append-assoc, append-nil}
 use borrow.Author.Tests.{eqb-false, leb-true, ne-eqb}
 use lib.Dec.{eqb, leb}
 use lib.ListN.{length, getD, take, drop, length-drop, take-append-drop}
-use lib.Seq.{drop-drop, length-take-le}
+use lib.Seq.{drop-drop, length-take-le, take-add}
 use Rattle.run.specs.Runs.{all, member}
+use Rattle.run.proofs.All.{all-append}
 use Rattle.field.specs.Byte.{isOf}
 use Rattle.field.specs.declared.Class.the-variants.{Printable}
 use Rattle.piece.specs.Cuts.{Ended, Unended}
@@ -69,19 +70,37 @@ none-printable (b ∷ p) e =
     let low = leb-true 32 b (and-eq-true-iff (leb 32 b) (leb b 126) .0 (both .0) .0) in
     rw (ne-eqb 10 b (λ x. omega arith)) (none-printable p (both .1))
 
+-- what holds of all bytes behind others, where it holds of all
+all-behind : (p : ℕ → Bool) (s t : List ℕ) → all p (s ++ t) ≡ true → all p t ≡ true
+all-behind p [] t e = e
+all-behind p (b ∷ s) t e = all-behind p s t (and-eq-true-iff (p b) (all p (s ++ t)) .0 e .1)
+
+-- two runs of a line's fields that overlap, as they are lent
+pub overlapped : (s : List ℕ) (at : ℕ) (a b : Bool) → a ≡ all (isOf Printable) (take (at + 128 - at) (drop at s))
+    → b ≡ all (isOf Printable) (take (at + 138 - (at + 122)) (drop (at + 122) s)) → (a && b) ≡ true
+    → all (isOf Printable) (take 138 (drop at s)) ≡ true
+overlapped s at a b e f t =
+    let h = and-eq-true-iff a b .0 t in
+    let n : at + 128 - at ≡ 128 = omega arith in
+    let m : at + 138 - (at + 122) ≡ 16 = omega arith in
+    let first : all (isOf Printable) (take 128 (drop at s)) ≡ true = rw n at (sym e ∙ h .0) in
+    let last : all (isOf Printable) (take 16 (drop 122 (drop at s))) ≡ true = rw (m, ← drop-drop 122 at s) at (sym f ∙ h .1) in
+    let behind : all (isOf Printable) (take 10 (drop 128 (drop at s))) ≡ true =
+    rw (drop-drop 6 122 (drop at s)) at (all-behind (isOf Printable) (take 6 (drop 122 (drop at s))) _ (rw (take-add 6 10 (drop 122 (drop at s))) at last)) in
+    rw (take-add 128 10 (drop at s)) (all-append (isOf Printable) (take 128 (drop at s)) (take 10 (drop 128 (drop at s))) first behind)
+
 -- what `is_plain` finds
-pub found-plain : (s : List ℕ) (at : ℕ) (good : Bool) → at ≤ length s → 140 ≤ length s - at → (getD s (at + 138) 0 ≡ 10 → ⊥) → getD s (at + 139) 0 ≡ 10
-    → good ≡ all (isOf Printable) (take (at + 138 - at) (drop at s)) → good ≡ true → Plain (drop at s)
-found-plain s at good h l other lf e t =
-    let printable = sym e ∙ t in
+pub found-plain : (s : List ℕ) (at : ℕ) → at ≤ length s → 140 ≤ length s - at → (getD s (at + 138) 0 ≡ 10 → ⊥) → getD s (at + 139) 0 ≡ 10
+    → all (isOf Printable) (take 138 (drop at s)) ≡ true → Plain (drop at s)
+found-plain s at h l other lf printable =
     let next : at + 138 + 1 ≡ at + 139 = omega arith in
+    let n : at + 138 - at ≡ 138 = omega arith in
     let whole : at + pieceLength (drop at s) ≡ at + 139 + 1 =
-    runs-on s at (at + 138) (omega arith) (omega arith) (none-printable (take (at + 138 - at) (drop at s)) printable)
+    runs-on s at (at + 138) (omega arith) (omega arith) (rw n (none-printable (take 138 (drop at s)) printable))
     ∙ (rw next at (goes-on s (at + 138) (omega arith) other))
     ∙ ends-behind s (at + 139) (omega arith) lf
     in
-    let n : at + 138 - at ≡ 138 = omega arith in
-    record { long = omega arith; printable = rw n at printable }
+    record { long = omega arith; printable = printable }
 
 pub begun : (p s : List ℕ) → member 10 p ≡ false → pieces (p ++ s) ≡ joinRun p (pieces s)
 begun [] s e = join-none (pieces s)

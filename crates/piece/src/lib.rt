@@ -2,7 +2,10 @@
 ghost use Prim.Native.Nat.{_+_, _≤_};
 ghost use mathlib.Core.Path.{_≡_};
 ghost use mathlib.Core.Bool.{true};
-ghost use lib.ListN.{length, drop};
+ghost use lib.ListN.{length, take, drop};
+ghost use Rattle.run.specs.Runs.{all};
+ghost use Rattle.field.specs.Byte.{isOf};
+ghost use Rattle.field.specs.declared.Class.the-variants.{Printable};
 ghost use Rattle.piece.specs.Pieces.{pieceLength};
 ghost use Rattle.piece.specs.Promises.{CutAt, Nexts, Plain};
 use field::Class;
@@ -29,6 +32,15 @@ pub enum Ahead {
     Nothing,
 }
 
+// In two runs, which share six bytes: 16 divides the length of each, so that no byte is looked at alone.
+fn fields_printable(text: &[u8], at: usize) -> bool
+    requires { ⌜ at + 138 ≤ length (now text) ⌝ }
+    ensures { λ r. ⌜ (r ≡ true → all (isOf Printable) (take 138 (drop at (now (text .entry)))) ≡ true) ⌝ }
+{
+    verbatim::all_of(&text[at..at + 128], Class::Printable)
+        & verbatim::all_of(&text[at + 122..at + FIELDS], Class::Printable)
+}
+
 // A printable byte is no LF, so that one pass tells where the piece ends and that its fields are printable.
 fn is_plain(text: &[u8], at: usize) -> bool
     requires { ⌜ at ≤ length (now text) ⌝ }
@@ -43,7 +55,7 @@ fn is_plain(text: &[u8], at: usize) -> bool
     if text[at + 139] != LF {
         return false;
     }
-    verbatim::all_of(&text[at..at + FIELDS], Class::Printable)
+    fields_printable(text, at)
 }
 
 fn end_by_bytes(text: &[u8], at: usize) -> usize

@@ -31,25 +31,13 @@ shared-slice-read-if3 c = search needs
 returns-3 : tie.Need-returns-3
 returns-3 c e = absurd (true≢false (sym e))
 
-add-all-of : tie.Need-add-all-of
-add-all-of c = search needs
-
-sub-all-of : tie.Need-sub-all-of
-sub-all-of c = search needs
-
-part-all-of-start : tie.Need-part-all-of-start
-part-all-of-start c = search needs
-
-part-all-of-end : tie.Need-part-all-of-end
-part-all-of-end c = search needs
-
-all-of-requires : tie.Need-all-of-requires
-all-of-requires c κs = search needs
+fields-printable-requires : tie.Need-fields-printable-requires
+fields-printable-requires c κs = search needs
 
 returns-4 : tie.Need-returns-4
-returns-4 c =
-    let p = c .before .before .before .before .before .before .before .before in
-    found-plain (now (p .args .text)) (p .args .at) _ (p .pre) (c .before .before .before .before .before .before .if1 .left) (c .before .before .before .before .if2 .left) (c .before .before .if3 .left) (c .all-of .ensures)
+returns-4 c e =
+    let p = c .before .before .before .before .before .before .before in
+    found-plain (now (p .args .text)) (p .args .at) (p .pre) (c .before .before .before .before .before .if1 .left) (c .before .before .before .if2 .left) (c .before .if3 .left) (c .fields-printable .ensures e)
 
 pub is-plain-spec : {M : Type 1} → statement M
 is-plain-spec =
@@ -63,9 +51,5 @@ is-plain-spec =
     add-if3
     shared-slice-read-if3
     returns-3
-    add-all-of
-    sub-all-of
-    part-all-of-start
-    part-all-of-end
-    all-of-requires
+    fields-printable-requires
     returns-4)
