@@ -12,7 +12,7 @@ use borrow.Author.Tests.{le-leb, lt-leb, ne-eqb}
 use Rattle.run.specs.Runs.{all, member}
 use Rattle.field.specs.Byte.{isOf}
 use Rattle.field.specs.Verbatim.{isText, isCode, lawfulIf}
-use Rattle.field.specs.Number.{within, spaced, digitsAfter, dollars, price}
+use Rattle.field.specs.Number.{within, number, spaced, digitsAfter, dollars, price}
 use Rattle.field.specs.Skipped.{Skipped}
 use Rattle.run.proofs.Scan.{at-next}
 use Rattle.field.proofs.Laws.{Halves, pow10-mono, spaced-write, digits-write}
@@ -29,6 +29,14 @@ above-most least most v n e h = rw (e, lt-leb v most h, and-false)
 
 pub in-bounds : (least most v : ℕ) (n : Number) → n ≡ Value v → least ≤ v → v ≤ most → Value v ≡ within least most n
 in-bounds least most v n e h k = rw (e, le-leb least v h, le-leb v most k)
+
+-- a bound that the width implies is no bound
+pub width-bounds : (s : List ℕ) (most : ℕ) → 10 ^ length s ≤ most + 1 → number 0 most s ≡ spaced s
+width-bounds s most h = go (spaced s) refl
+  where
+    go : (n : Number) → spaced s ≡ n → within 0 most n ≡ n
+    go (Value v) e = sym (in-bounds 0 most v (Value v) refl (omega arith) (omega (arith, spaced-write s v e .1)))
+    go Bad e = refl
 
 pub no-text : (s : List ℕ) → length s ≡ 0 → Unlawful ≡ lawfulIf (isText s)
 no-text [] h = refl

@@ -43,7 +43,7 @@ fn digits_only(s: &[u8]) -> Number
 }
 
 // The rule of a number that space fill pads: every number field today, and the whole part of a price.
-fn spaced(s: &[u8]) -> Number
+pub fn spaced(s: &[u8]) -> Number
     requires { ⌜ length (now s) ≤ 19 ⌝ }
     ensures { λ r. ⌜ r ≡ Number·spaced (now (s .entry)) ⌝ }
 {

@@ -94,12 +94,13 @@ pub fn replaced(s: &[u8], replace: bool) -> Bytes
     verbatim::blank(s)
 }
 
+// An id may be any number that its bytes hold, so none is too large. Who does not ask for it then does not pay for it.
 pub fn id(s: &[u8], trade: bool) -> Number
-    requires { ⌜ length (now s) ≤ 19 ⌝ }
+    requires { ⌜ length (now s) ≤ 9 ⌝ }
     ensures { λ r. ⌜ r ≡ idOn trade (now (s .entry)) ⌝ }
 {
     if trade {
-        return digits::number(s, 0, MOST_ID);
+        return digits::spaced(s);
     }
     let Bytes::Lawful = verbatim::blank(s) else {
         return Number::Bad;

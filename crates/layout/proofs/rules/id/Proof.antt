@@ -1,15 +1,22 @@
 -- `layout::rules::id` meets its contract.
+use mathlib.Core.Path.{sym, _∙_}
+use lib.ListN.{length}
+use Rattle.field.proofs.Laws.{pow10-mono}
+use Rattle.field.proofs.Returns.{width-bounds}
 use borrow.Author.Needs.{needs}
 use denote.Ref.{now}
 use Rattle.layout.proofs.ByType.{number-on, no-id, bad-id}
 use Rattle.layout.proofs.rules.id.Statement.{statement}
 use Rattle.layout.proofs.rules.id.Tie as tie
 
-number-requires : tie.Need-number-requires
-number-requires c κs = search needs
+spaced-requires : tie.Need-spaced-requires
+spaced-requires c κs = search needs
 
 returns : tie.Need-returns
-returns c = number-on _ (now (c .before .before .before .args .s)) _ (c .before .if1 .taken) (c .number .ensures)
+returns c =
+    let start = c .before .before .before in
+    let s = now (start .args .s) in
+    number-on _ s _ (c .before .if1 .taken) (c .spaced .ensures ∙ sym (width-bounds s 999999999 (pow10-mono (length s) 9 (start .pre))))
 
 blank-requires : tie.Need-blank-requires
 blank-requires c κs = search needs
@@ -29,4 +36,4 @@ returns-3 c = no-id _ (now (c .before .before .before .before .before .args .s))
 pub id-spec : {M : Type 1} → statement M
 id-spec =
     tie.close
-    (tie.spec number-requires returns blank-requires enum-told enum-told-2 returns-2 returns-3)
+    (tie.spec spaced-requires returns blank-requires enum-told enum-told-2 returns-2 returns-3)
