@@ -1,7 +1,7 @@
 -- The ways out of booking a piece, each as the promise says it.
 use Prim.Native.Nat.{ℕ, _+_, _<_}
 use native.Mathlib.Omega.{arith}
-use mathlib.Core.Path.{_≡_, refl, ap, ap₂, _∙_}
+use mathlib.Core.Path.{_≡_, refl, ap₂, _∙_}
 use mathlib.Core.Bool.{Bool, true, false, cond}
 use mathlib.Core.List.{List, [], _∷_}
 use lib.Dec.{eqb}
@@ -45,10 +45,6 @@ named s r e =
     record { long = said-length s r e; own = ap₂ (λ (x y : List ℕ). record { source = x; token = y }) source token }
 
 -- ---- what is stored
-
-pub one-changed : (s : List ℕ) (i : ℕ) (g : Order → Order) (o : Order) → o ≡ orderIn (slot s i)
-    → sets s (slotAt i) (slotBytes (g o)) ≡ changedAt i g s
-one-changed s i g o e = ap (λ x. sets s (slotAt i) (slotBytes (g x))) e
 
 -- a changed order leaves the free slot where it was, and the index beside the table
 module _ (s u : List ℕ) (i : ℕ) where

@@ -1,4 +1,4 @@
-// Booking: a plan is carried out by whole slots and the header.
+// Booking: a plan is carried out by whole slots, by what changes of an order, and by the header.
 ghost use mathlib.Core.Path.{_≡_};
 ghost use mathlib.Core.Bool.{true};
 ghost use Rattle.layout.specs.Line.{line as Line·line, endOfDay, printable};
@@ -124,16 +124,12 @@ fn refigure(t: &mut [u8], i: usize, f: Figures)
     requires { ⌜ SlotInside i (now t) ⌝ }
     ensures { λ _. ⌜ now (t .exit) ≡ refigured i f (now (t .entry)) ⌝ }
 {
-    let mut o = slot::order_at(t, i);
-    o.figures = f;
-    slot::store(t, i, o);
+    slot::store_figures(t, i, f);
 }
 
 fn reprice(t: &mut [u8], i: usize, p: u64)
     requires { ⌜ SlotInside i (now t) ⌝ }
     ensures { λ _. ⌜ now (t .exit) ≡ changedAt i (withPrice p) (now (t .entry)) ⌝ }
 {
-    let mut o = slot::order_at(t, i);
-    o.price = p;
-    slot::store(t, i, o);
+    slot::store_price(t, i, p);
 }

@@ -1,5 +1,7 @@
 -- Stores one right behind the other are one store
 pub mod Runs
+-- What a change of an order leaves need not be stored again
+pub mod Changing
 -- A sound order fits into a slot
 pub mod Room
 -- A slot tells the order that was stored in it

@@ -12,6 +12,8 @@ pub use read::figures_in;
 pub use read::order_at;
 pub use write::put_key;
 pub use write::store;
+pub use write::store_figures;
+pub use write::store_price;
 
 // What stands before the first slot, a slot, and the key at the beginning of one: its Source, then its Token.
 pub const HEADER: usize = 8;

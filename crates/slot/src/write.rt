@@ -3,8 +3,11 @@ ghost use Prim.Native.Nat.{_+_, _≤_};
 ghost use mathlib.Core.Path.{_≡_};
 ghost use lib.ListN.{length};
 ghost use lib.Seq.{sets};
-ghost use Rattle.slot.specs.Slots.{slotWidth, slotBytes, keyBytes, expiryBytes, seriesBytes, tradedBytes, figuresBytes, termsBytes};
-ghost use Rattle.slot.specs.Places.{slotAt, SlotInside};
+ghost use Rattle.cell.specs.Cells.{leBytes};
+ghost use Rattle.order.specs.declared.Figures.{Figures};
+ghost use Rattle.day.specs.Machine.{withFigures, withPrice};
+ghost use Rattle.slot.specs.Slots.{slotWidth, orderIn, slotBytes, keyBytes, expiryBytes, seriesBytes, tradedBytes, figuresBytes, termsBytes};
+ghost use Rattle.slot.specs.Places.{slot, slotAt, SlotInside};
 use crate::HEADER;
 use crate::SLOT;
 use crate::offset;
@@ -76,6 +79,14 @@ fn put_terms(t: &mut [u8], at: usize, o: Order)
     cell::put(t, at + offset::PRICE, 8, o.price);
 }
 
+// The rest of a slot in use must be 0.
+fn put_rest(t: &mut [u8], at: usize)
+    requires { ⌜ at + slotWidth ≤ length (now t) ⌝ }
+    ensures { λ _. ⌜ now (t .exit) ≡ sets (now (t .entry)) (at + 75) (leBytes 5 0) ⌝ }
+{
+    cell::put(t, at + offset::REST, 5, 0);
+}
+
 pub fn store(t: &mut [u8], i: usize, o: Order)
     requires { ⌜ SlotInside i (now t) ⌝ }
     ensures { λ _. ⌜ now (t .exit) ≡ sets (now (t .entry)) (slotAt i) (slotBytes o) ⌝ }
@@ -84,6 +95,25 @@ pub fn store(t: &mut [u8], i: usize, o: Order)
     put_terms(t, at, o);
     cell::put(t, at + offset::ELDER, 2, o.elder);
     put_figures(t, at, o.figures);
-    // The rest of a slot in use must be 0.
-    cell::put(t, at + offset::REST, 5, 0);
+    put_rest(t, at);
+}
+
+// Other figures for an order. What does not change is not stored again: the next line about the order would wait for it.
+pub fn store_figures(t: &mut [u8], i: usize, f: Figures)
+    requires { ⌜ SlotInside i (now t) ⌝ }
+    ensures { λ _. ⌜ now (t .exit) ≡ sets (now (t .entry)) (slotAt i) (slotBytes (withFigures (λ (old : Figures). f) (orderIn (slot (now (t .entry)) i)))) ⌝ }
+{
+    let at = HEADER + SLOT * i;
+    put_figures(t, at, f);
+    put_rest(t, at);
+}
+
+// Another price, in the same way.
+pub fn store_price(t: &mut [u8], i: usize, p: u64)
+    requires { ⌜ SlotInside i (now t) ⌝ }
+    ensures { λ _. ⌜ now (t .exit) ≡ sets (now (t .entry)) (slotAt i) (slotBytes (withPrice p (orderIn (slot (now (t .entry)) i)))) ⌝ }
+{
+    let at = HEADER + SLOT * i;
+    cell::put(t, at + offset::PRICE, 8, p);
+    put_rest(t, at);
 }

@@ -26,11 +26,8 @@ put-requires c κs = search needs
 put-figures-requires : tie.Need-put-figures-requires
 put-figures-requires c κs = search needs
 
-add-put-2 : tie.Need-add-put-2
-add-put-2 c = search needs
-
-put-requires-2 : tie.Need-put-requires-2
-put-requires-2 c κs = search needs
+put-rest-requires : tie.Need-put-rest-requires
+put-rest-requires c κs = search needs
 
 same-length : tie.Need-same-length
 same-length c = search needs
@@ -47,7 +44,7 @@ returns c =
     let third = fourth .before .before .before .before in
     let second = third .before .before .before .before in
     let first = second .before .before .before .before in
-    order-stored (a .o) (slotAt (a .i)) (now (a .t)) source token root (first .put-terms .ensures) (second .put .ensures) (third .put-figures .ensures) (fourth .put2 .ensures)
+    order-stored (a .o) (slotAt (a .i)) (now (a .t)) source token root (first .put-terms .ensures) (second .put .ensures) (third .put-figures .ensures) (fourth .put-rest .ensures)
 
 pub store-spec : {M : Type 1} → statement M
 store-spec =
@@ -59,7 +56,6 @@ store-spec =
     add-put
     put-requires
     put-figures-requires
-    add-put-2
-    put-requires-2
+    put-rest-requires
     same-length
     returns)
