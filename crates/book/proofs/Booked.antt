@@ -17,10 +17,11 @@ use Rattle.layout.specs.Line.{Said, line, endOfDay, read}
 use Rattle.layout.specs.declared.Record.{Record}
 use Rattle.line.specs.Promises.{saidOf}
 use Rattle.line.specs.declared.Outcome.{Outcome}
+use Rattle.order.specs.Names.{keyOf}
 use Rattle.order.specs.declared.Figures.{Figures}
 use Rattle.order.specs.declared.Order.{Order}
-use Rattle.day.specs.Machine.{refusalOf, withFigures, withPrice, newOrder}
-use Rattle.slot.specs.Slots.{orderIn, slotBytes}
+use Rattle.day.specs.Machine.{place, refusalOf, withFigures, withPrice, newOrder}
+use Rattle.slot.specs.Slots.{keyIn, orderIn, slotBytes}
 use Rattle.slot.specs.Places.{slot, slotAt, SlotInside}
 use Rattle.table.specs.Changes.{changedAt, appended}
 use Rattle.table.specs.Tables.{countIn, limitOf, sound, tableIn}
@@ -28,7 +29,7 @@ use Rattle.lookup.specs.Beside.{Beside}
 use Rattle.lookup.proofs.Beside.{over-beside, changed-beside}
 use Rattle.table.proofs.Holding.{count-stored}
 use Rattle.book.specs.Bytes.{bookBytes, bookAnswer}
-use Rattle.book.specs.Plans.{Named, refigured, Plans, RoomFor, Carried, BooksSaid, answerOf, afterPlan}
+use Rattle.book.specs.Plans.{refigured, Plans, RoomFor, Carried, BooksSaid, answerOf, afterPlan}
 use Rattle.book.specs.Promises.{Books, bookingOf}
 use Rattle.book.specs.declared.Booking.{Booking}
 use Rattle.book.specs.declared.Booking.the-variants.{Booked, Refused}
@@ -37,12 +38,13 @@ use Rattle.book.specs.declared.Plan.the-variants.{Replace}
 
 -- ---- the line of a record
 
--- its key is where a lookup is lent it
-pub named : (s : List ℕ) (r : Record) → read s ≡ value (line r) → Named s r
-named s r e =
+-- its key stands where the lookup is lent it: 01, The line: 10, 11
+pub own-place : (s : List ℕ) (r : Record) (os : List Order) (n : ℕ) → read s ≡ value (line r) → (length s ≡ 140 → n ≡ place (keyIn (part s 30 26)) os)
+    → n ≡ place (keyOf r) os
+own-place s r os n e h =
     let source : part (part s 30 26) 0 6 ≡ r .source = part-part s 30 26 0 6 (omega arith) ∙ source-said s r e in
     let token : part (part s 30 26) 6 20 ≡ r .token = part-part s 30 26 6 20 (omega arith) ∙ token-said s r e in
-    record { long = said-length s r e; own = ap₂ (λ (x y : List ℕ). record { source = x; token = y }) source token }
+    h (said-length s r e) ∙ ap₂ (λ (x y : List ℕ). place (record { source = x; token = y }) os) source token
 
 -- ---- what is stored
 

@@ -4,7 +4,6 @@ use mathlib.Core.Path.{_≡_}
 use mathlib.Core.Bool.{Bool, cond, _&&_}
 use mathlib.Core.List.{List}
 use lib.ListN.{length}
-use Rattle.run.specs.Runs.{part}
 use Rattle.refusal.specs.Answer.{Answer, value, refusedBy}
 use Rattle.refusal.specs.declared.Refusal.the-variants.{OtherSeries, NotOpen, NotExecuted, Full}
 use Rattle.layout.specs.Line.{Said, line}
@@ -12,12 +11,10 @@ use Rattle.layout.specs.declared.Event.{Event}
 use Rattle.layout.specs.declared.Event.the-variants.{Accepted, Executed, Cancelled, Broken, Replaced, Repriced}
 use Rattle.layout.specs.declared.Record.{Record}
 use Rattle.order.specs.Figure.{executedBy, brokenBy, cancelledBy, passedOn}
-use Rattle.order.specs.Names.{keyOf}
 use Rattle.order.specs.declared.Figures.{Figures}
 use Rattle.order.specs.declared.Order.{Order}
 use Rattle.day.specs.History.{isMaker}
 use Rattle.day.specs.Machine.{bookSaid, found, differs, notOpen, notExecuted, withFigures, withPrice, newOrder}
-use Rattle.slot.specs.Slots.{keyIn}
 use Rattle.slot.specs.Places.{SlotInside}
 use Rattle.table.specs.Changes.{changedAt, appended}
 use Rattle.table.specs.Tables.{countIn, limitOf, tableIn}
@@ -70,11 +67,6 @@ RoomFor New s = countIn s < limitOf (length s)
 RoomFor (Change i f) s = SlotInside i s
 RoomFor (Price i p) s = SlotInside i s
 RoomFor (Replace i f) s = SlotInside i s × (countIn s < limitOf (length s))
-
--- the key of a record where its line has it: 01, The line: 10, 11
-pub record Named (s : List ℕ) (r : Record) : Type 0 where
-  pub long : length s ≡ 140
-  pub own : keyIn (part s 30 26) ≡ keyOf r
 
 -- a plan for a line
 pub record Plans (s : List ℕ) (r : Record) (p : Plan) : Type 0 where

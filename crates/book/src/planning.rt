@@ -3,15 +3,17 @@ ghost use mathlib.Core.Path.{_≡_};
 ghost use mathlib.Core.Bool.{true, false, not, _&&_};
 ghost use lib.Dec.{eqb, leb};
 ghost use lib.ListN.{length};
+ghost use Rattle.run.specs.Runs.{part};
 ghost use Rattle.order.specs.Figure.{Sound};
 ghost use Rattle.order.specs.Names.{keyOf};
 ghost use Rattle.day.specs.History.{isNew, isMaker};
 ghost use Rattle.day.specs.Machine.{found, find, isFound, notOpen, notExecuted, place};
 ghost use Rattle.day.specs.Refusals.{subject as Refusals·subject};
+ghost use Rattle.slot.specs.Slots.{keyIn};
 ghost use Rattle.slot.specs.Places.{placeNo};
 ghost use Rattle.table.specs.Tables.{limitOf, tableIn, sound};
 ghost use Rattle.lookup.specs.Beside.{Beside};
-ghost use Rattle.book.specs.Plans.{Named, Plans, planAbout, planBy};
+ghost use Rattle.book.specs.Plans.{Plans, planAbout, planBy};
 use crate::Plan;
 use crate::conditions;
 use layout::Event;
@@ -21,19 +23,30 @@ use refusal::Refusal;
 use slot::Place;
 use table::header;
 
-// 6 and 7 first, as 01 has them. Of an A only 12 is left then; any other line is about an order of the table. The key is lent as the line has it, since a Key by
-// value would be stored anew on the way to the lookup.
-pub fn plan(t: &[u8], heads: &[u16], nexts: &[u16], line: &[u8], r: Record) -> Plan
+// The order with the key of a piece that is as long as a line. The key is lent as the piece has it, since a Key by value would be stored anew on the way to the
+// lookup.
+pub fn own(t: &[u8], heads: &[u16], nexts: &[u16], piece: &[u8]) -> Place
     requires { ⌜ sound (now t) ≡ true ⌝ }
     requires { ⌜ Beside (now t) (now heads) (now nexts) ⌝ }
-    requires { ⌜ Named (now line) r ⌝ }
+    ensures { λ x. ⌜ (length (now (piece .entry)) ≡ 140 → placeNo x ≡ place (keyIn (part (now (piece .entry)) 30 26)) (tableIn (now (t .entry)) .orders)) ⌝ }
+{
+    if piece.len() != layout::LINE {
+        return Place::Nobody;
+    }
+    let key = &piece[layout::SOURCE..layout::REPLACED];
+    lookup::find(t, heads, nexts, lookup::bucket(heads, key), key)
+}
+
+// 6 and 7 first, as 01 has them. Of an A only 12 is left then; any other line is about an order of the table.
+pub fn plan(t: &[u8], heads: &[u16], nexts: &[u16], own: Place, r: Record) -> Plan
+    requires { ⌜ sound (now t) ≡ true ⌝ }
+    requires { ⌜ Beside (now t) (now heads) (now nexts) ⌝ }
+    requires { ⌜ placeNo own ≡ place (keyOf r) (tableIn (now t) .orders) ⌝ }
     ensures { λ p. ⌜ Plans (now (t .entry)) r p ⌝ }
 {
     if header::is_over(t) {
         return Plan::No(Refusal::DayOver);
     }
-    let key = &line[layout::SOURCE..layout::REPLACED];
-    let own = lookup::find(t, heads, nexts, lookup::bucket(heads, key), key);
     let event = r.event;
     if is_taken(event, own) {
         return Plan::No(Refusal::KnownKey);

@@ -2,12 +2,13 @@
 ghost use mathlib.Core.Path.{_≡_};
 ghost use mathlib.Core.Bool.{true};
 ghost use Rattle.layout.specs.Line.{line as Line·line, endOfDay, printable};
-ghost use Rattle.day.specs.Machine.{newOrder, withPrice};
+ghost use Rattle.order.specs.Names.{keyOf};
+ghost use Rattle.day.specs.Machine.{newOrder, place, withPrice};
 ghost use Rattle.table.specs.Changes.{changedAt};
-ghost use Rattle.slot.specs.Places.{SlotInside};
-ghost use Rattle.table.specs.Tables.{sound};
+ghost use Rattle.slot.specs.Places.{SlotInside, placeNo};
+ghost use Rattle.table.specs.Tables.{sound, tableIn};
 ghost use Rattle.lookup.specs.Beside.{Beside};
-ghost use Rattle.book.specs.Plans.{BooksSaid, Carried, Named, RoomFor, refigured};
+ghost use Rattle.book.specs.Plans.{BooksSaid, Carried, RoomFor, refigured};
 ghost use Rattle.book.specs.Promises.{Books};
 use crate::Booking;
 use crate::Plan;
@@ -17,6 +18,7 @@ use line::Outcome;
 use order::Figures;
 use order::Order;
 use refusal::Refusal;
+use slot::Place;
 use table::damage;
 use table::header;
 
@@ -47,11 +49,13 @@ pub fn book_sound(
     ensures { λ x. ⌜ Books (now (t .entry)) (now (piece .entry)) x (now (t .exit)) ⌝ }
     ensures { λ _. ⌜ Beside (now (t .exit)) (now (heads .exit)) (now (nexts .exit)) ⌝ }
 {
+    // Looked up before the line is read: the processor then does both at once.
+    let own = planning::own(t, heads, nexts, piece);
     let reading = line::read_in(piece, plain);
     let outcome = reading.outcome;
     match outcome {
         Outcome::EndOfDay => book_end(t),
-        Outcome::Line => book_line(t, heads, nexts, piece, reading.line),
+        Outcome::Line => book_line(t, heads, nexts, own, reading.line),
         Outcome::Refused(x) => Booking::Refused(x),
     }
 }
@@ -67,14 +71,15 @@ fn book_end(t: &mut [u8]) -> Booking
     Booking::Booked
 }
 
-fn book_line(t: &mut [u8], heads: &mut [u16], nexts: &mut [u16], line: &[u8], r: Record) -> Booking
+// The line's own key was looked up already.
+fn book_line(t: &mut [u8], heads: &mut [u16], nexts: &mut [u16], own: Place, r: Record) -> Booking
     requires { ⌜ sound (now t) ≡ true ⌝ }
     requires { ⌜ Beside (now t) (now heads) (now nexts) ⌝ }
-    requires { ⌜ Named (now line) r ⌝ }
+    requires { ⌜ placeNo own ≡ place (keyOf r) (tableIn (now t) .orders) ⌝ }
     ensures { λ x. ⌜ BooksSaid (now (t .entry)) (Line·line r) x (now (t .exit)) ⌝ }
     ensures { λ _. ⌜ Beside (now (t .exit)) (now (heads .exit)) (now (nexts .exit)) ⌝ }
 {
-    let plan = planning::plan(t, heads, nexts, line, r);
+    let plan = planning::plan(t, heads, nexts, own, r);
     carry_out(t, heads, nexts, plan, r)
 }
 

@@ -1,12 +1,11 @@
 -- `book::planning::plan` meets its contract.
-use mathlib.Core.Path.{_≡_, sym, ap, _∙_}
+use mathlib.Core.Path.{_≡_, sym, _∙_}
 use mathlib.Core.Bool.{false, _&&_}
 use borrow.Author.Tests.{not-true, not-false}
 use denote.Ref.{now}
 use Rattle.order.specs.Names.{keyOf}
-use Rattle.order.specs.declared.Key.{Key}
 use Rattle.day.specs.History.{isMaker}
-use Rattle.day.specs.Machine.{find, isFound, place}
+use Rattle.day.specs.Machine.{find, isFound}
 use Rattle.slot.specs.Slots.{orderIn}
 use Rattle.slot.specs.Places.{placeNo}
 use Rattle.table.specs.Tables.{tableIn}
@@ -20,46 +19,27 @@ use Rattle.book.proofs.planning.plan.Tie as tie
 -- ---- once the line's own key is looked up
 
 begun : tie.After-is-taken → tie.Start
-begun c = c .before .before .before .before .before .before .before .before .before .before
-
-own-place : (c : tie.After-is-taken) → placeNo (c .before .find .result) ≡ place (keyOf (begun c .args .r)) (tableIn (now (begun c .args .t)) .orders)
-unfolding begun
-own-place c = c .before .find .ensures ∙ ap (λ (k : Key). place k (tableIn (now (begun c .args .t)) .orders)) (begun c .pre .1 .1 .own)
+begun c = c .before .before .before .before .before .before
 
 not-over : (c : tie.After-is-taken) → tableIn (now (begun c .args .t)) .over ≡ false
 unfolding begun
-not-over c = sym (c .before .before .before .before .before .is-over .ensures) ∙ c .before .before .before .before .if1 .left
+not-over c = sym (c .before .before .is-over .ensures) ∙ c .before .if1 .left
 
 taken : (c : tie.After-is-taken) → c .is-taken .result ≡ (isMaker (begun c .args .r .event) && isFound (find (keyOf (begun c .args .r)) (tableIn (now (begun c .args .t)) .orders)))
 unfolding begun
 taken c =
     let a = begun c .args in
-    c .is-taken .ensures ∙ taken-is (isMaker (a .r .event)) (keyOf (a .r)) (tableIn (now (a .t)) .orders) (orderIn (now (a .t))) (placeNo (c .before .find .result)) (own-place c)
+    c .is-taken .ensures ∙ taken-is (isMaker (a .r .event)) (keyOf (a .r)) (tableIn (now (a .t)) .orders) (orderIn (now (a .t))) (placeNo (a .own)) (begun c .pre .1 .1)
 
 -- ---- the needs
 
 is-over-requires : tie.Need-is-over-requires
-is-over-requires c κs = header-there (now (c .before .before .before .before .args .t)) (search needs)
+is-over-requires c κs = header-there (now (c .before .before .before .args .t)) (search needs)
 
 returns : tie.Need-returns
 returns c =
-    let start = c .before .before .before .before .before .before in
+    let start = c .before .before .before .before .before in
     day-over (now (start .args .t)) (start .args .r) (sym (c .before .is-over .ensures) ∙ c .if1 .taken)
-
-sub-key : tie.Need-sub-key
-sub-key c = search needs
-
-part-key-start : tie.Need-part-key-start
-part-key-start c = search needs
-
-part-key-end : tie.Need-part-key-end
-part-key-end c = search needs
-
-bucket-requires : tie.Need-bucket-requires
-bucket-requires c κs = search needs
-
-find-requires : tie.Need-find-requires
-find-requires c κs = search needs
 
 is-taken-requires : tie.Need-is-taken-requires
 is-taken-requires c κs = search needs
@@ -77,7 +57,7 @@ plan-older-requires : tie.Need-plan-older-requires
 unfolding begun
 plan-older-requires c κs =
     let o = c .before .before .before in
-    (begun o .pre .0, (begun o .pre .1 .0, (own-place o, (not-over o, (sym (taken o) ∙ c .before .before .if2 .left, sym (c .before .is-new .ensures) ∙ not-true _ (c .if3 .taken))))))
+    (begun o .pre .0, (begun o .pre .1 .0, (begun o .pre .1 .1, (not-over o, (sym (taken o) ∙ c .before .before .if2 .left, sym (c .before .is-new .ensures) ∙ not-true _ (c .if3 .taken))))))
 
 returns-3 : tie.Need-returns-3
 returns-3 c = search needs
@@ -105,11 +85,6 @@ plan-spec =
     (tie.spec
     is-over-requires
     returns
-    sub-key
-    part-key-start
-    part-key-end
-    bucket-requires
-    find-requires
     is-taken-requires
     returns-2
     is-new-requires
