@@ -10,5 +10,7 @@ pub mod Parts
 pub mod Stores
 -- Two runs that the test takes for the same are equal
 pub mod Sameness
+-- Two runs of eight bytes are the same where their numbers are
+pub mod Words
 -- A place or else none is that place
 pub mod Found

@@ -2,3 +2,5 @@
 pub mod Runs
 -- A place, or none
 pub mod Found
+-- Bytes compared eight at a time
+pub mod Words
