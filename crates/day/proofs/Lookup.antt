@@ -4,12 +4,13 @@ use native.Mathlib.Omega.{arith}
 use mathlib.Core.Path.{_≡_, refl, sym, ap, _∙_}
 use mathlib.Core.Bool.{Bool, true, false, cond, _||_, false≢true}
 use mathlib.Core.List.{List, [], _∷_, _++_, map, map-append}
+use Rattle.run.specs.Found.{oneMore}
 use Rattle.layout.specs.Line.{endOfDay, line}
 use Rattle.layout.specs.declared.Record.{Record}
 use Rattle.order.specs.Names.{keyOf, sameKey}
 use Rattle.order.specs.declared.Key.{Key}
 use Rattle.order.specs.declared.Order.{Order}
-use Rattle.day.specs.History.{History, isMaker, madeBy, linesThatMake, oneMore, placeOf, orderOf, ordersOf, known, lineThatMade, isOver}
+use Rattle.day.specs.History.{History, isMaker, madeBy, linesThatMake, placeOf, orderOf, ordersOf, known, lineThatMade, isOver}
 use Rattle.day.specs.Machine.{Found, nobody, found, find, isFound, place, amend}
 use Rattle.day.specs.Tables.{Table, empty, withOrders, withMark}
 use Rattle.run.proofs.Tests.{both}

@@ -1,9 +1,10 @@
 -- The day as its accepted lines declare it: 01, Orders and their figures. A history is the list of accepted lines, the latest first, so that
 -- what was accepted before a line is the rest of the list.
-use Prim.Native.Nat.{ℕ, zero, suc, _+_, _-_}
+use Prim.Native.Nat.{ℕ, _+_, _-_}
 use mathlib.Core.Bool.{Bool, true, false, cond, not, _&&_, _||_}
 use mathlib.Core.List.{List, [], _∷_, _++_, map}
 use lib.Dec.{eqb}
+use Rattle.run.specs.Found.{oneMore}
 use Rattle.layout.specs.Line.{Said, endOfDay, line}
 use Rattle.layout.specs.Records.{typeOf}
 use Rattle.layout.specs.declared.Event.{Event}
@@ -138,10 +139,6 @@ abbrev pub linesThatMake : History → List Record
 linesThatMake [] = []
 linesThatMake (endOfDay ∷ h) = linesThatMake h
 linesThatMake (line r ∷ h) = cond (isMaker (r .event)) (linesThatMake h ++ (r ∷ [])) (linesThatMake h)
-
-abbrev pub oneMore : ℕ → ℕ
-oneMore zero = zero
-oneMore (suc n) = suc (suc n)
 
 -- one more than the place of the earliest order with a key, or 0
 abbrev pub placeOf : Key → List Record → ℕ

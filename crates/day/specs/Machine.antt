@@ -4,6 +4,7 @@ use mathlib.Core.Bool.{Bool, true, false, cond, not, _&&_, _||_}
 use mathlib.Core.List.{List, [], _∷_, _++_}
 use lib.Dec.{ltb, leb, eqb}
 use lib.ListN.{length}
+use Rattle.run.specs.Found.{oneMore}
 use Rattle.refusal.specs.Answer.{Answer, value, refused}
 use Rattle.layout.specs.Line.{Said, endOfDay, line, read}
 use Rattle.layout.specs.declared.Event.{Event}
@@ -14,7 +15,7 @@ use Rattle.order.specs.Names.{keyOf, elderKeyOf, seriesOf, sameKey, sameSeries}
 use Rattle.order.specs.declared.Figures.{Figures}
 use Rattle.order.specs.declared.Key.{Key}
 use Rattle.order.specs.declared.Order.{Order}
-use Rattle.day.specs.History.{isNew, isExecution, isCancel, isBreak, isReplace, isReprice, isMaker, oneMore}
+use Rattle.day.specs.History.{isNew, isExecution, isCancel, isBreak, isReplace, isReprice, isMaker}
 use Rattle.day.specs.Refusals.{subject}
 use Rattle.day.specs.Tables.{Table, withOrders, withOver, Booked}
 

@@ -14,5 +14,7 @@ pub mod Clearing
 pub mod Passing
 -- What a lookup and distinct keys mean, in words
 pub mod Meanings
+-- The earliest record with a key in the list of records
+pub mod Listed
 -- A record whose key leads to it is the earliest with that key
 pub mod Repeats

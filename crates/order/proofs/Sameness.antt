@@ -1,6 +1,6 @@
 -- The tests of keys and of series say that they are equal.
-use mathlib.Core.Path.{_≡_, refl, sym, subst}
-use mathlib.Core.Bool.{Bool, true, false, _&&_}
+use mathlib.Core.Path.{_≡_, refl, subst}
+use mathlib.Core.Bool.{true, _&&_}
 use mathlib.Core.Logic.{_↔_}
 use borrow.Author.Tests.{eqb-true, eq-eqb}
 use lib.Dec.{eqb}
@@ -8,7 +8,7 @@ use Rattle.run.specs.Runs.{same}
 use Rattle.order.specs.Names.{sameKey, sameSeries}
 use Rattle.order.specs.declared.Key.{Key}
 use Rattle.order.specs.declared.Series.{Series}
-use Rattle.run.proofs.Tests.{both}
+use Rattle.run.proofs.Tests.{both, agree}
 use Rattle.run.proofs.Sameness.{same-self, same-true}
 
 -- ---- keys
@@ -22,15 +22,10 @@ key-eq a b e =
     λ i. record { source = same-true (a .source) (b .source) (h .0) i; token = same-true (a .token) (b .token) (h .1) i }
 
 pub key-comm : (a b : Key) → sameKey a b ≡ sameKey b a
-key-comm a b = go (sameKey a b) (sameKey b a) (back a b) (back b a)
+key-comm a b = agree (sameKey a b) (sameKey b a) (back a b) (back b a)
   where
     back : (x y : Key) → sameKey x y ≡ true → sameKey y x ≡ true
     back x y e = subst (λ (k : Key). sameKey k x ≡ true) (key-eq x y e) (key-self x)
-
-    go : (s t : Bool) → (s ≡ true → t ≡ true) → (t ≡ true → s ≡ true) → s ≡ t
-    go true t f g = sym (f refl)
-    go false true f g = g refl
-    go false false f g = refl
 
 -- ---- series
 

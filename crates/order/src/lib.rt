@@ -7,6 +7,8 @@ ghost use Rattle.order.specs.Names.{keyOf, elderKeyOf, seriesOf};
 mod sound;
 
 use layout::Record;
+pub use sound::is_text;
+pub use sound::lawful_series;
 pub use sound::sound_order;
 
 // The six Source bytes and the twenty Token bytes.

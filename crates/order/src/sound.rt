@@ -11,7 +11,7 @@ use crate::Series;
 use field::Bytes;
 use field::verbatim;
 
-fn is_text(s: &[u8]) -> bool
+pub fn is_text(s: &[u8]) -> bool
     ensures { λ r. ⌜ r ≡ isText (now (s .entry)) ⌝ }
 {
     let Bytes::Lawful = verbatim::text(s) else {
@@ -28,7 +28,7 @@ fn lawful_key(k: Key) -> bool
     is_text(&source) & is_text(&token)
 }
 
-fn lawful_series(s: Series) -> bool
+pub fn lawful_series(s: Series) -> bool
     ensures { λ r. ⌜ r ≡ lawfulSeries s ⌝ }
 {
     let root = s.root;

@@ -12,5 +12,5 @@ pub mod Stores
 pub mod Sameness
 -- Two runs of eight bytes are the same where their numbers are
 pub mod Words
--- A place or else none is that place
+-- A place or else none; the first of a list that passes a test
 pub mod Found

@@ -5,3 +5,8 @@ use Prim.Native.Nat.{ℕ, zero, suc}
 abbrev pub orElse : ℕ → ℕ → ℕ
 orElse zero b = b
 orElse (suc a) b = suc a
+
+-- the place of one that has one more in front of it
+abbrev pub oneMore : ℕ → ℕ
+oneMore zero = zero
+oneMore (suc n) = suc (suc n)

@@ -1,28 +1,25 @@
 -- The place of an order by its key is the earliest record with that key, Source and Token as one run: the index answers what the lookup promises.
 use Prim.Native.Nat.{ℕ, zero, suc, _+_, _*_, _≤_}
-use native.Mathlib.Nat.{zero-add}
 use native.Mathlib.Omega.{arith}
 use mathlib.Core.Path.{_≡_, refl, sym, ap, _∙_}
-use mathlib.Core.Bool.{Bool, true, false, cond, _&&_, and-assoc}
-use mathlib.Core.List.{List, [], _∷_, _++_}
+use mathlib.Core.Bool.{_&&_, and-assoc}
+use mathlib.Core.List.{List, [], _∷_}
 use lib.Dec.{eqb}
 use lib.ListN.{length, take, drop, length-drop, length-take}
 use lib.Seq.{sets, take-all, take-at, drop-at}
 use Rattle.run.specs.Runs.{part, same}
-use Rattle.run.specs.Found.{orElse}
 use Rattle.run.proofs.Parts.{part-part}
 use Rattle.run.proofs.Stores.{sets-whole}
 use Rattle.order.specs.Names.{sameKey}
 use Rattle.order.specs.declared.Key.{Key}
 use Rattle.order.specs.declared.Order.{Order}
-use Rattle.day.specs.History.{oneMore}
 use Rattle.day.specs.Machine.{place}
 use Rattle.section.specs.Sections.{recordOf, Holds, KeyOf}
 use Rattle.section.specs.declared.Section.{Section}
 use Rattle.section.proofs.Places.{key-in-record}
-use Rattle.section.proofs.Lists.{records-last, length-records}
 use Rattle.index.specs.Searches.{hasKey, earliest}
 use Rattle.index.specs.Indexes.{Indexed}
+use Rattle.index.proofs.Listed.{earliest-listed}
 use Rattle.slot.specs.Slots.{slotWidth, keyIn, keyBytes, orderIn}
 use Rattle.slot.specs.Places.{slots, slotKeys, slotAt, slot, ordersIn}
 use Rattle.slot.proofs.Runs.{length-key}
@@ -72,31 +69,10 @@ key-joined l b k w e f g =
 
 -- ---- all orders
 
-place-last : (k : Key) (os : List Order) (o : Order) → place k (os ++ (o ∷ [])) ≡ orElse (place k os) (cond (sameKey (o .key) k) (suc (length os)) 0)
-place-last k [] o = go (sameKey (o .key) k)
-  where
-    go : (t : Bool) → cond t 1 (oneMore 0) ≡ orElse 0 (cond t 1 0)
-    go true = refl
-    go false = refl
-place-last k (x ∷ os) o = go (sameKey (x .key) k) (sameKey (o .key) k) (place k os) (place-last k os o)
-  where
-    go : (t u : Bool) (p : ℕ) → place k (os ++ (o ∷ [])) ≡ orElse p (cond u (suc (length os)) 0)
-        → cond t 1 (oneMore (place k (os ++ (o ∷ [])))) ≡ orElse (cond t 1 (oneMore p)) (cond u (suc (suc (length os))) 0)
-    go true u p e = refl
-    go false true zero e = rw e
-    go false false zero e = rw e
-    go false u (suc p) e = rw e
-
 pub earliest-place : (s : List ℕ) (n : ℕ) (key : List ℕ) → length key ≡ 26 → earliest slotKeys s n key ≡ place (keyIn key) (ordersIn 0 n s)
-earliest-place s zero key e = refl
-earliest-place s (suc n) key e =
-    let os = ordersIn 0 n s in
-    let one : orElse (earliest slotKeys s n key) (cond (hasKey slotKeys s key n) (suc n) 0)
-    ≡ orElse (place (keyIn key) os) (cond (sameKey (keyIn (slot s n)) (keyIn key)) (suc (length os)) 0) =
-    rw (earliest-place s n key e, slot-has s n key e, length-records orderIn slots s 0 n) in
-    one
-    ∙ sym (place-last (keyIn key) os (orderIn (slot s n)))
-    ∙ ap (place (keyIn key)) (sym (records-last orderIn slots s 0 n ∙ ap (λ i. os ++ (orderIn (slot s i) ∷ [])) (zero-add n)))
+earliest-place s n key e =
+    earliest-listed (λ (o : Order). sameKey (o .key) (keyIn key)) (place (keyIn key)) refl (λ o os. refl) orderIn slots slotKeys s key n
+    (λ i l. slot-has s i key e)
 
 -- ---- `slot::finding`: records are sought over keys that are known to be the table's, by a key that is lent as the first 26 bytes of its own run
 

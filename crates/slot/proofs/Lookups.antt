@@ -5,10 +5,10 @@ use mathlib.Core.Path.{_≡_, refl, sym, ap, _∙_}
 use mathlib.Core.Bool.{Bool, true, false, cond}
 use mathlib.Core.List.{List, [], _∷_}
 use lib.ListN.{length, getD, set}
+use Rattle.run.specs.Found.{oneMore}
 use Rattle.order.specs.Names.{sameKey}
 use Rattle.order.specs.declared.Key.{Key}
 use Rattle.order.specs.declared.Order.{Order}
-use Rattle.day.specs.History.{oneMore}
 use Rattle.day.specs.Machine.{nobody, found, find, place, amend}
 use Rattle.slot.specs.Places.{placeNo}
 use Rattle.slot.specs.Places.{ordersIn}

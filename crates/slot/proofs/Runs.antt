@@ -64,14 +64,21 @@ series-stored s at l₀ {l₁} wide expiry denominator strike =
     let first : Stored l₀ (at + 27) 9 (expiryBytes s) l₁ = record { wide = length-expiry s wide; stored = expiry } in
     then (then first (byte (s .denominator) denominator) (omega arith)) (number 4 (s .strike) strike) (omega arith) .stored
 
+-- key, side and series, as a slot begins
+pub opening-stored : (k : Key) (side : ℕ) (s : Series) (at : ℕ) (l₀ : List ℕ) {l₁ l₂ l₃ : List ℕ} → length (k .source) ≡ 6 → length (k .token) ≡ 20
+    → length (s .root) ≡ 6 → l₁ ≡ sets l₀ at (keyBytes k) → l₂ ≡ sets l₁ (at + 26) (side ∷ []) → l₃ ≡ sets l₂ (at + 27) (seriesBytes s)
+    → Stored l₀ at 41 (keyBytes k ++ (side ∷ []) ++ seriesBytes s) l₃
+opening-stored k side s at l₀ {l₁} {l₂} {l₃} source token root key beside series =
+    let first : Stored l₀ at 26 (keyBytes k) l₁ = record { wide = length-key k source token; stored = key } in
+    let third : Stored l₂ (at + 27) 14 (seriesBytes s) l₃ = record { wide = length-series s root; stored = series } in
+    then (then first (byte side beside) refl) third (omega arith)
+
 module _ (o : Order) (at : ℕ) (l₀ : List ℕ) {l₁ l₂ l₃ l₄ : List ℕ} (source : length (o .key .source) ≡ 6) (token : length (o .key .token) ≡ 20)
     (root : length (o .series .root) ≡ 6) where
   pub terms-stored : l₁ ≡ sets l₀ at (keyBytes (o .key)) → l₂ ≡ sets l₁ (at + 26) (o .side ∷ [])
       → l₃ ≡ sets l₂ (at + 27) (seriesBytes (o .series)) → l₄ ≡ sets l₃ (at + 41) (leBytes 8 (o .price)) → l₄ ≡ sets l₀ at (termsBytes o)
   terms-stored key side series price =
-      let first : Stored l₀ at 26 (keyBytes (o .key)) l₁ = record { wide = length-key (o .key) source token; stored = key } in
-      let third : Stored l₂ (at + 27) 14 (seriesBytes (o .series)) l₃ = record { wide = length-series (o .series) root; stored = series } in
-      then (then (then first (byte (o .side) side) refl) third (omega arith)) (number 8 (o .price) price) (omega arith) .stored
+      then (opening-stored (o .key) (o .side) (o .series) at l₀ source token root key side series) (number 8 (o .price) price) refl .stored
 
   pub order-stored : l₁ ≡ sets l₀ at (termsBytes o) → l₂ ≡ sets l₁ (at + 49) (leBytes 2 (o .elder))
       → l₃ ≡ sets l₂ (at + 51) (figuresBytes (o .figures)) → l₄ ≡ sets l₃ (at + 75) (leBytes 5 0) → l₄ ≡ sets l₀ at (slotBytes o)

@@ -25,7 +25,7 @@ pub fn keys() -> Section
 }
 
 // The place of an order by one more than it, or 0 for nobody.
-fn place_of(found: usize) -> Place
+pub fn place_of(found: usize) -> Place
     ensures { λ r. ⌜ placeNo r ≡ found ⌝ }
 {
     if found == 0 {

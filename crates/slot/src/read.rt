@@ -1,4 +1,5 @@
 // An order read from the 80 bytes of its slot, by value.
+ghost use Prim.Native.Nat.{_≤_};
 ghost use mathlib.Core.Path.{_≡_};
 ghost use lib.ListN.{length};
 ghost use Rattle.slot.specs.Slots.{slotWidth, orderIn, keyIn, seriesIn, figuresIn};
@@ -12,9 +13,9 @@ use order::Key;
 use order::Order;
 use order::Series;
 
-// b is the 80 bytes of a slot.
-fn key_in(b: &[u8]) -> Key
-    requires { ⌜ length (now b) ≡ slotWidth ⌝ }
+// b is the 80 bytes of a slot, or others that begin as a slot does.
+pub fn key_in(b: &[u8]) -> Key
+    requires { ⌜ 26 ≤ length (now b) ⌝ }
     ensures { λ r. ⌜ r ≡ keyIn (now (b .entry)) ⌝ }
 {
     let mut source = [0u8; 6];
@@ -24,8 +25,8 @@ fn key_in(b: &[u8]) -> Key
     Key { source, token }
 }
 
-fn series_in(b: &[u8]) -> Series
-    requires { ⌜ length (now b) ≡ slotWidth ⌝ }
+pub fn series_in(b: &[u8]) -> Series
+    requires { ⌜ 41 ≤ length (now b) ⌝ }
     ensures { λ r. ⌜ r ≡ seriesIn (now (b .entry)) ⌝ }
 {
     let mut root = [0u8; 6];

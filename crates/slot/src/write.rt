@@ -29,7 +29,7 @@ pub fn put_key(t: &mut [u8], at: usize, k: Key)
 
 // In all that follow a slot begins at `at`. The first nine bytes of a series. A function of its own, since the prover reads only so many facts of one.
 fn put_expiry(t: &mut [u8], at: usize, s: Series)
-    requires { ⌜ at + slotWidth ≤ length (now t) ⌝ }
+    requires { ⌜ at + 41 ≤ length (now t) ⌝ }
     ensures { λ _. ⌜ now (t .exit) ≡ sets (now (t .entry)) (at + 27) (expiryBytes s) ⌝ }
 {
     let root = s.root;
@@ -39,8 +39,9 @@ fn put_expiry(t: &mut [u8], at: usize, s: Series)
     cell::put(t, at + offset::YEAR, 1, s.year);
 }
 
-fn put_series(t: &mut [u8], at: usize, s: Series)
-    requires { ⌜ at + slotWidth ≤ length (now t) ⌝ }
+// At its place behind key and side.
+pub fn put_series(t: &mut [u8], at: usize, s: Series)
+    requires { ⌜ at + 41 ≤ length (now t) ⌝ }
     ensures { λ _. ⌜ now (t .exit) ≡ sets (now (t .entry)) (at + 27) (seriesBytes s) ⌝ }
 {
     put_expiry(t, at, s);
