@@ -1,9 +1,9 @@
 -- What each refusal is in the paper's numbers.
 use Prim.Native.Nat.{ℕ}
 use Rattle.refusal.specs.declared.Refusal.{Refusal}
-use Rattle.refusal.specs.declared.Refusal.the-variants.{NoLine, BadByte, Field, NoRoom, Damaged, DayOver, KnownKey, UnknownKey, OtherSeries, NotOpen, NotExecuted, Full}
+use Rattle.refusal.specs.declared.Refusal.the-variants.{NoLine, BadByte, Field, NoRoom, Damaged, DayOver, KnownKey, UnknownKey, OtherSeries, NotOpen, NotExecuted, Full, RowFull}
 
--- 01, Refusals by number: the first column
+-- 01, Refusals by number: the first column; 02, 1: 13
 abbrev pub numberOf : Refusal → ℕ
 numberOf NoLine = 1
 numberOf BadByte = 2
@@ -17,6 +17,7 @@ numberOf OtherSeries = 9
 numberOf NotOpen = 10
 numberOf NotExecuted = 11
 numberOf Full = 12
+numberOf RowFull = 13
 
 -- 01, Refusals by number, 3: the number of the first field comes with it; 0 for any other
 abbrev pub fieldOf : Refusal → ℕ
@@ -32,3 +33,4 @@ fieldOf OtherSeries = 0
 fieldOf NotOpen = 0
 fieldOf NotExecuted = 0
 fieldOf Full = 0
+fieldOf RowFull = 0

@@ -1,4 +1,4 @@
-// The numbered refusals of 01, one home for all of them.
+// The numbered refusals of 01 and 02, one home for all of them.
 ghost use mathlib.Core.Path.{_≡_};
 ghost use Rattle.refusal.specs.Answer.{codeFor};
 ghost use Rattle.refusal.specs.Numbers.{numberOf, fieldOf};
@@ -28,6 +28,8 @@ pub enum Refusal {
     NotExecuted,
     // 12: the table is full.
     Full,
+    // 13: no quote row is left, or its executed would be too large.
+    RowFull,
 }
 
 // The paper's number.
@@ -47,6 +49,7 @@ pub fn number(r: Refusal) -> u8
         Refusal::NotOpen => 10,
         Refusal::NotExecuted => 11,
         Refusal::Full => 12,
+        Refusal::RowFull => 13,
     }
 }
 
@@ -67,6 +70,7 @@ pub fn field(r: Refusal) -> u8
         Refusal::NotOpen => 0,
         Refusal::NotExecuted => 0,
         Refusal::Full => 0,
+        Refusal::RowFull => 0,
     }
 }
 

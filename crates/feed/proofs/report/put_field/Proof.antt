@@ -16,7 +16,7 @@ enum-known-x c = search needs
 returns : tie.Need-returns
 returns c =
     let a = c .before .before .args in
-    let others : List ℕ = 0 ∷ 1 ∷ 3 ∷ 4 ∷ 5 ∷ 6 ∷ 7 ∷ 8 ∷ 9 ∷ 10 ∷ 11 ∷ [] in
+    let others : List ℕ = 0 ∷ 1 ∷ 3 ∷ 4 ∷ 5 ∷ 6 ∷ 7 ∷ 8 ∷ 9 ∷ 10 ∷ 11 ∷ 12 ∷ [] in
     other-put (a .x) (a .at) (now (a .out)) (λ f e. miss others 2 tt (rw e at (c .match .keys2)))
 
 slice-aggregate-store : tie.Need-slice-aggregate-store
