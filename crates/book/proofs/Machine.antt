@@ -18,7 +18,8 @@ use Rattle.order.specs.declared.Key.{Key}
 use Rattle.order.specs.declared.Order.{Order}
 use Rattle.day.specs.Damage.{undamaged}
 use Rattle.day.specs.History.{isNew}
-use Rattle.day.specs.Machine.{place, amend, withFigures, newOrder, refusalOf, bookEvent, accept, bookRead}
+use Rattle.day.specs.Machine.{find, place, amend, withFigures, newOrder, refusalOf, bookEvent, accept, bookRead}
+use Rattle.day.specs.Refusals.{subject}
 use Rattle.day.specs.Tables.{withOrders, Booked}
 use Rattle.day.specs.Machine.{book as bookDay}
 use Rattle.day.proofs.Admitted.{Admitted, admitted, Spoken, spoken}
@@ -31,6 +32,7 @@ use Rattle.table.proofs.Holding.{Holds, length-changed, changed-holds, appended
 use Rattle.table.proofs.Sound.{sound-apart, holds-sound}
 use Rattle.book.specs.Bytes.{eventBytes, acceptBytes, readBytes, bookBytes, bookAnswer}
 use Rattle.book.proofs.Lengths.{booked-length}
+use Rattle.book.proofs.Unquoted.{unquoted, orders-alone}
 
 -- ---- an accepted line
 
@@ -42,7 +44,7 @@ module _ {s : List ℕ} (h : Holds s (tableIn s)) where
       → Holds (changed k f s) (withOrders (amend k f os) (tableIn s))
   found-holds {k} f e fit = let (i, p) = stands f e in changed-holds k f i h (omega (arith, p .numbered)) fit
 
-  event-holds : {r : Record} → Admitted (limitOf (length s)) os r → (e : Event) → r .event ≡ e
+  event-holds : {r : Record} → Admitted (limitOf (length s)) os (tableIn s .quotes) r → (e : Event) → r .event ≡ e
       → (isNew e ≡ false → (o : Order) × Spoken os r o) → AllFit (bookEvent e r os)
       → Holds (eventBytes e r s) (withOrders (bookEvent e r os) (tableIn s))
   event-holds {r} a Accepted q theirs fit =
@@ -79,7 +81,8 @@ module _ {s : List ℕ} (h : Holds s (tableIn s)) where
   said-holds endOfDay true z u = over-holds h
   said-holds (line r) true z u =
       let a = admitted limit (tableIn s) r (eqb-true (refusalOf limit (tableIn s) (line r)) 0 z) in
-      event-holds h a (r .event) refl (λ n. spoken n a) (all-fit (length s) (accept (line r) (tableIn s)) u)
+      rw (orders-alone r (tableIn s))
+      (event-holds h a (r .event) refl (λ n. spoken n (unquoted r (find (subject r) (tableIn s .orders))) a) (all-fit (length s) (accept (line r) (tableIn s)) u))
 
   read-holds : (a : Answer Said) → undamaged limit (bookRead limit (tableIn s) a .table) ≡ true
       → Holds (readBytes a s) (bookRead limit (tableIn s) a .table)

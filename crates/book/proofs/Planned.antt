@@ -20,7 +20,7 @@ use Rattle.order.specs.declared.Figures.{Figures}
 use Rattle.order.specs.declared.Key.{Key}
 use Rattle.order.specs.declared.Order.{Order}
 use Rattle.day.specs.History.{isNew, isMaker, isReplace}
-use Rattle.day.specs.Machine.{nobody, found, find, isFound, place, differs, notOpen, notExecuted, refusalOf, withFigures, withPrice, newOrder}
+use Rattle.day.specs.Machine.{nobody, found, find, isFound, place, differs, notOpen, notExecuted, toQuote, refusalOf, withFigures, withPrice, newOrder}
 use Rattle.day.specs.Refusals.{subject}
 use Rattle.slot.specs.Slots.{orderIn}
 use Rattle.slot.specs.Places.{slot, SlotInside}
@@ -31,6 +31,7 @@ use Rattle.book.specs.Plans.{Plans, RoomFor, planBy, planAbout, answerOf
 use Rattle.book.specs.declared.Plan.{Plan}
 use Rattle.book.specs.declared.Plan.the-variants.{No, New}
 use Rattle.book.proofs.There.{free}
+use Rattle.book.proofs.Unquoted.{unquoted}
 
 module _ (s : List ℕ) (r : Record) where
   refuses : (x : Refusal) → refusalOf (limitOf (length s)) (tableIn s) (line r) ≡ numberOf x → eqb (numberOf x) 0 ≡ false → fieldOf x ≡ 0
@@ -77,20 +78,23 @@ module _ (s : List ℕ) (r : Record) where
   abbrev orders : List Order
   orders = tableIn s .orders
 
+  none : toQuote r (find (subject r) orders) ≡ false
+  none = unquoted r (find (subject r) orders)
+
   pub day-over : tableIn s .over ≡ true → Plans s r (No DayOver)
   day-over a = refuses DayOver (rw a) refl refl
 
   module _ (a : tableIn s .over ≡ false) where
     pub known-key : (isMaker (r .event) && isFound (find (keyOf r) orders)) ≡ true → Plans s r (No KnownKey)
-    known-key b = refuses KnownKey (rw (a, b)) refl refl
+    known-key b = refuses KnownKey (rw (none, a, b)) refl refl
 
     module _ (b : (isMaker (r .event) && isFound (find (keyOf r) orders)) ≡ false) where
       module _ (n : isNew (r .event) ≡ true) where
         pub full-of-new : leb (limitOf (length s)) (length orders) ≡ true → Plans s r (No Full)
-        full-of-new f = refuses Full (rw (a, b, n, f)) refl refl
+        full-of-new f = refuses Full (rw (none, a, b, n, f)) refl refl
 
         pub new : leb (limitOf (length s)) (length orders) ≡ false → Plans s r New
-        new f = grants New (rw (a, b, n, f)) refl (is-new (r .event) n) (free s f)
+        new f = grants New (rw (none, a, b, n, f)) refl (is-new (r .event) n) (free s f)
           where
             is-new : (e : Event) → isNew e ≡ true → appended (newOrder r (r .contracts) 0) s ≡ eventBytes e r s
             is-new Accepted n = refl
@@ -102,7 +106,7 @@ module _ (s : List ℕ) (r : Record) where
 
       module _ (n : isNew (r .event) ≡ false) where
         pub unknown-key : find (subject r) orders ≡ nobody → Plans s r (No UnknownKey)
-        unknown-key f = refuses UnknownKey (rw (a, b, n, f)) refl refl
+        unknown-key f = refuses UnknownKey (rw (none, a, b, n, f)) refl refl
 
         -- the order that the line speaks of stands at place i
         module _ (i : ℕ) (o : Order) (f : find (subject r) orders ≡ found o) (at : place (subject r) orders ≡ i + 1) (e : o ≡ orderIn (slot s i)) (h : SlotInside i s) where
@@ -114,10 +118,10 @@ module _ (s : List ℕ) (r : Record) where
 
               go : (d p x y : Bool) → differs r (found o) ≡ d → notOpen r (found o) ≡ p → notExecuted r (found o) ≡ x
                   → (isMaker (r .event) && full) ≡ y → Plans s r (chain d p x y)
-              go true p x y q t u v = refuses OtherSeries (rw (a, b, n, f, q)) refl refl
-              go false true x y q t u v = refuses NotOpen (rw (a, b, n, f, q, t)) refl refl
-              go false false true y q t u v = refuses NotExecuted (rw (a, b, n, f, q, t, u)) refl refl
-              go false false false true q t u v = refuses Full (rw (a, b, ← m, v, n, f, q, t, u)) refl refl
+              go true p x y q t u v = refuses OtherSeries (rw (none, a, b, n, f, q)) refl refl
+              go false true x y q t u v = refuses NotOpen (rw (none, a, b, n, f, q, t)) refl refl
+              go false false true y q t u v = refuses NotExecuted (rw (none, a, b, n, f, q, t, u)) refl refl
+              go false false false true q t u v = refuses Full (rw (none, a, b, ← m, v, n, f, q, t, u)) refl refl
               go false false false false q t u v =
-                  grants (planBy (r .event) i (o .figures) r) (rw (a, b, ← m, v, n, f, q, t, u)) (plan-answer (r .event) i (o .figures))
+                  grants (planBy (r .event) i (o .figures) r) (rw (none, a, b, ← m, v, n, f, q, t, u)) (plan-answer (r .event) i (o .figures))
                   (rw e (plan-bytes (r .event) i at)) (plan-room (r .event) i (o .figures) h (rw (← m) v))

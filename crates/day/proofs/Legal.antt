@@ -1,7 +1,7 @@
 -- Legal histories: no key is made twice, and whoever a line speaks of was made before.
 use mathlib.Core.Path.{_≡_, refl, sym, subst, _∙_}
 use mathlib.Core.Logic.{_⊎_, inl, inr}
-use mathlib.Core.Bool.{Bool, true, false, not, _&&_, false≢true, and-false, or-true}
+use mathlib.Core.Bool.{Bool, true, false, not, _&&_, false≢true, and-false, and-true, or-true}
 use mathlib.Core.List.{[], _∷_, List·Memᴰ, List·Memᴰ·not-nil, List·Memᴰ·append-cases, List·Memᴰ·eq-of-singleton}
 use Rattle.layout.specs.Line.{endOfDay, line}
 use Rattle.layout.specs.declared.Event.{Event}
@@ -9,15 +9,19 @@ use Rattle.layout.specs.declared.Event.the-variants.{Accepted, Executed, Cancel
 use Rattle.layout.specs.declared.Record.{Record}
 use Rattle.order.specs.Names.{keyOf, elderKeyOf, sameKey}
 use Rattle.order.specs.declared.Key.{Key}
-use Rattle.day.specs.History.{History, isNew, isReplace, isMaker, madeBy, replaces, sumOf, passedOf, linesThatMake, known}
+use Rattle.quote.specs.Quotes.{quoteOf}
+use Rattle.day.specs.History.{History, isNew, isExecution, isReplace, isMaker, madeBy, replaces, sumOf, passedOf, linesThatMake, known}
+use Rattle.day.specs.Quotes.{isFill, belongs, hasRow}
 use Rattle.day.specs.Refusals.{subject}
 use Rattle.run.proofs.Tests.{neither}
 use Rattle.order.proofs.Sameness.{key-eq, key-comm, key-self}
 
--- a line that may follow a history, as far as keys go
+-- a line that may follow a history, as far as keys and quotes go
 pub record Follows (h : History) (r : Record) : Type 0 where
   pub fresh : isMaker (r .event) ≡ true → known (keyOf r) h ≡ false
-  pub named : isNew (r .event) ≡ false → known (subject r) h ≡ true
+  pub named : isNew (r .event) ≡ false → belongs h r ≡ false → known (subject r) h ≡ true
+  -- 02, 1: "C must find it"
+  pub rowed : belongs h r ≡ true → isExecution (r .event) ≡ false → hasRow (quoteOf r) h ≡ true
 
 abbrev pub Legal : History → Type 0
 Legal [] = Unit {0}
@@ -34,13 +38,16 @@ replace-old (Broken t) q = refl
 replace-old Replaced q = refl
 replace-old Repriced q = refl
 
-pub elder-known : (h : History) (r : Record) → Follows h r → isReplace (r .event) ≡ true → known (elderKeyOf r) h ≡ true
-elder-known h r f q = rw q at (f .named (replace-old (r .event) q))
+replace-unfilled : (e : Event) → isReplace e ≡ true → isFill e ≡ false
+replace-unfilled Accepted q = absurd (false≢true q)
+replace-unfilled (Executed t) q = absurd (false≢true q)
+replace-unfilled Cancelled q = absurd (false≢true q)
+replace-unfilled (Broken t) q = absurd (false≢true q)
+replace-unfilled Replaced q = refl
+replace-unfilled Repriced q = absurd (false≢true q)
 
-own-known : (h : History) (r : Record) → Follows h r → isMaker (r .event) ≡ false → known (keyOf r) h ≡ true
-own-known h r f q =
-    let n = neither (isNew (r .event)) (isReplace (r .event)) q in
-    rw (n .1) at (f .named (n .0))
+pub elder-known : (h : History) (r : Record) → Follows h r → isReplace (r .event) ≡ true → known (elderKeyOf r) h ≡ true
+elder-known h r f q = rw q at (f .named (replace-old (r .event) q) (rw (replace-unfilled (r .event) q)))
 
 -- ---- keys that are known against those that are not
 
@@ -63,13 +70,9 @@ not-both false b f = refl
 pub unreplaced : (h : History) (r : Record) (k : Key) → Follows h r → known k h ≡ false → replaces k r ≡ false
 unreplaced h r k f n = not-both (isReplace (r .event)) (sameKey (elderKeyOf r) k) (λ q. apart h (elderKeyOf r) k (elder-known h r f q) n .0)
 
--- whoever an E, C, X or R that follows names is known
-pub named-known : (h : History) (r : Record) (k : Key) → Follows h r → isMaker (r .event) ≡ false → (sameKey (keyOf r) k && known k h) ≡ sameKey (keyOf r) k
-named-known h r k f q = go (sameKey (keyOf r) k) refl
-  where
-    go : (t : Bool) → sameKey (keyOf r) k ≡ t → (t && known k h) ≡ t
-    go true s = subst (λ (x : Key). known x h ≡ true) (key-eq (keyOf r) k s) (own-known h r f q)
-    go false s = refl
+-- a line that names a known key is about its order
+pub named-known : (h : History) (r : Record) (k : Key) → known k h ≡ true → (sameKey (keyOf r) k && known k h) ≡ sameKey (keyOf r) k
+named-known h r k e = rw e (and-true (sameKey (keyOf r) k))
 
 -- the figures of an unknown key are 0
 pub unknown-sum : (kind : Event → Bool) (k : Key) (h : History) → known k h ≡ false → sumOf kind k h ≡ 0

@@ -13,6 +13,8 @@ pub mod Checks
 pub mod Booking
 -- An accepted line changes orders as the longer history declares
 pub mod Steps
+-- The row that a lookup finds, and the rows that an accepted line leaves
+pub mod Quotes
 -- The answer is by the first refusal that applies
 pub mod Verdict
 -- 4. The table reached
@@ -29,6 +31,8 @@ pub mod Admitted
 pub mod Figures
 -- What a line gives an order may stand in the table
 pub mod Lawful
+-- A line that belongs to a quote row brings no damage to the rows
+pub mod QuoteRows
 -- A change, or one order more, brings no damage
 pub mod Undamaged
 -- Booking brings no damage, so no table reached has any

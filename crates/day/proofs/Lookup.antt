@@ -12,7 +12,8 @@ use Rattle.order.specs.declared.Key.{Key}
 use Rattle.order.specs.declared.Order.{Order}
 use Rattle.day.specs.History.{History, isMaker, madeBy, linesThatMake, placeOf, orderOf, ordersOf, known, lineThatMade, isOver}
 use Rattle.day.specs.Machine.{Found, nobody, found, find, isFound, place, amend}
-use Rattle.day.specs.Tables.{Table, empty, withOrders, withMark}
+use Rattle.day.specs.Quotes.{quoteRowsOf}
+use Rattle.day.specs.Tables.{Table, empty, withOrders, withQuotes, withMark}
 use Rattle.run.proofs.Tests.{both}
 use Rattle.order.proofs.Sameness.{key-eq}
 use Rattle.day.proofs.Legal.{Legal, fresh-unknown}
@@ -139,7 +140,7 @@ module _ (g : Record → Order) (keys : (m : Record) → g m .key ≡ keyOf m) w
 -- ---- the table that a history declares
 
 abbrev pub dayOf : History → Table
-dayOf h = withMark (isOver h) (withOrders (ordersOf h) empty)
+dayOf h = withMark (isOver h) (withQuotes (quoteRowsOf h) (withOrders (ordersOf h) empty))
 
 pub place-order : (k : Key) (h : History) → place k (ordersOf h) ≡ placeOf k (linesThatMake h)
 place-order k h = place-map (orderOf h) (λ m. refl) k (linesThatMake h)

@@ -58,6 +58,16 @@ module _ (k : Key) (f : Order → Order) where
       let any : Order → ℕ = λ o. 0 in
       sym (length-map (amend k f os) any) ∙ ap length (map-amend any (λ o. refl) os) ∙ length-map os any
 
+-- where nobody has the key nothing is changed
+pub amend-absent : (k : Key) (f : Order → Order) (os : List Order) → isFound (find k os) ≡ false → amend k f os ≡ os
+amend-absent k f [] e = refl
+amend-absent k f (o ∷ os) e = go (sameKey (o .key) k) (amend-absent k f os) e
+  where
+    go : (t : Bool) → (isFound (find k os) ≡ false → amend k f os ≡ os) → isFound (cond t (found o) (find k os)) ≡ false
+        → cond t (f o ∷ os) (o ∷ amend k f os) ≡ o ∷ os
+    go true ih e = absurd (false≢true (sym e))
+    go false ih e = ap (λ (l : List Order). o ∷ l) (ih e)
+
 -- its number is one more than its place
 pub record Stands (k : Key) (f : Order → Order) (os : List Order) (o : Order) (i : ℕ) : Type 0 where
   pub numbered : place k os ≡ suc i

@@ -2,7 +2,7 @@
 use Prim.Native.Nat.{ℕ}
 use mathlib.Core.Path.{_≡_, refl, sym, ap, subst, _∙_}
 use mathlib.Core.Logic.{_⊎_, inl, inr, _↔_}
-use mathlib.Core.Bool.{Bool, true, false, cond, not}
+use mathlib.Core.Bool.{Bool, true, false, cond, not, and-true}
 use mathlib.Core.List.{List, [], _∷_}
 use Rattle.refusal.specs.Answer.{Answer, value, refused}
 use Rattle.layout.proofs.Demand2.{demand2}
@@ -13,6 +13,7 @@ use Rattle.order.specs.Names.{keyOf}
 use Rattle.order.specs.declared.Key.{Key}
 use Rattle.day.specs.Demand3.{IsAnswer, tableAfter, answerTo, joined, historyAfter}
 use Rattle.day.specs.History.{History, isNew, isMaker, isReplace, ordersOf, known, isOver}
+use Rattle.day.specs.Quotes.{isFill, quoteRowsOf}
 use Rattle.day.specs.Machine.{refusalOf, bookRead, book}
 use Rattle.day.specs.Tables.{Table}
 use Rattle.day.specs.Refusals.{subject, rules, NoneOf, FirstOf}
@@ -34,6 +35,9 @@ reached limit (p ∷ ps) =
 
 pub orders-told : (limit : ℕ) (ps : List (List ℕ)) → tableAfter (book limit) ps .orders ≡ ordersOf (historyAfter (book limit) ps)
 orders-told limit ps = ap (λ (t : Table). t .orders) (reached limit ps .1)
+
+pub quotes-told : (limit : ℕ) (ps : List (List ℕ)) → tableAfter (book limit) ps .quotes ≡ quoteRowsOf (historyAfter (book limit) ps)
+quotes-told limit ps = ap (λ (t : Table). t .quotes) (reached limit ps .1)
 
 pub mark : (limit : ℕ) (ps : List (List ℕ)) → tableAfter (book limit) ps .over ≡ isOver (historyAfter (book limit) ps)
 mark limit ps = ap (λ (t : Table). t .over) (reached limit ps .1)
@@ -112,4 +116,4 @@ story limit ps p r e q same =
     answer-reached limit ps p
     ∙ ap (λ (a : Answer Said). bookRead limit (dayOf h) a .answer) e
     ∙ said-answer limit (dayOf h) (line r)
-    ∙ rw (ap isMaker q, ap isNew q, is-known (keyOf r) r h l, is) (self-answer (isOver h) (known (keyOf r) h) _)
+    ∙ rw (ap isMaker q, ap isNew q, ap isFill q, is-known (keyOf r) r h l, is, and-true (not (known (keyOf r) h))) (self-answer (isOver h) (known (keyOf r) h) _)

@@ -14,11 +14,13 @@ use Rattle.layout.specs.declared.Event.the-variants.{Accepted, Executed, Broken
 use Rattle.layout.specs.declared.Record.{Record}
 use Rattle.order.specs.Names.{keyOf}
 use Rattle.order.specs.declared.Figures.{Figures}
+use Rattle.quote.specs.Quotes.{mostRows, namesQuote}
 use Rattle.day.specs.Case.{sample, host, token, fill, naming, replacing}
 use Rattle.day.specs.Damage.{openAt}
 use Rattle.day.specs.Demand3.{Demand3, tableAfter, answerTo, historyAfter}
 use Rattle.day.specs.History.{ordersOf, isOver, figuresOf}
 use Rattle.day.specs.Listing.{Row, Sheet, membersOf, Each, shown}
+use Rattle.day.specs.Quotes.{quoteRowsOf}
 use Rattle.day.specs.Machine.{Lookup, ownKey, subjectKey, bookEvent, bookRead, book}
 use Rattle.day.specs.Tables.{Table, empty, Booked}
 use Rattle.day.specs.Refusals.{subject, rules, NoneOf}
@@ -71,7 +73,7 @@ module _ {limit : ℕ} {book : Table → List ℕ → Booked} {sheet : Table →
   held : (rs : List Record) → Taken rs → tableAfter book (map lineOf rs) ≡ tableOf rs
   held rs all =
       let ps = map lineOf rs in
-      table-eq (demand .orders ps ∙ ap ordersOf all) (demand .mark ps ∙ ap isOver all)
+      table-eq (demand .orders ps ∙ ap ordersOf all) (demand .quotes ps ∙ ap quoteRowsOf all) (demand .mark ps ∙ ap isOver all)
 
   none-applies : (rs : List Record) (r : Record) → Taken rs
       → book (tableOf rs) (lineOf r) .answer ≡ value tt
@@ -210,10 +212,10 @@ module _ {limit : ℕ} (room : 2 ≤ limit) {sheet : Table → Sheet} where
   pub subject-by-token : (own : Lookup) (effect : Effect)
       → Demand3 limit (bookWith own (λ r. byToken (subject r)) effect limit) sheet
       → ⊥
-  unfolding read lineOf
+  unfolding read lineOf namesQuote mostRows
   subject-by-token own effect demand =
       let none = none-applies demand (order ∷ []) (elsewhere (Executed fill)) (one demand (omega arith)) refl in
-      none-of 8 (rules limit (line order ∷ []) (lineOf (elsewhere (Executed fill)))) none (line (elsewhere (Executed fill)), refl, (refl, refl))
+      none-of 8 (rules limit (line order ∷ []) (lineOf (elsewhere (Executed fill)))) none (line (elsewhere (Executed fill)), refl, (refl, refl, refl))
 
   -- A T1 30; E T1 30; A T1 30: refused 7
   pub frees-key : (theirs : Lookup) (effect : Effect) → Demand3 limit (bookWith ownOpen theirs effect limit) sheet → ⊥

@@ -100,4 +100,5 @@ module _ (h : History) where
       let n = x .orders ∙ sym (y .orders) in
       let f = x .families ∙ sym (y .families) in
       let rows = one-rows (a .rows) (b .rows) ms (x .told) (y .told) in
-      λ i. record { orders = n i; families = f i; rows = rows i }
+      let quotes = x .quotes ∙ sym (y .quotes) in
+      λ i. record { orders = n i; families = f i; rows = rows i; quotes = quotes i }

@@ -10,6 +10,7 @@ use Rattle.layout.specs.Line.{read}
 use Rattle.day.specs.Demand3.{IsAnswer, IsSheet, Demand3, joined, tableAfter, answerTo, historyAfter}
 use Rattle.day.specs.History.{History, ordersOf, isOver}
 use Rattle.day.specs.Listing.{Sheet}
+use Rattle.day.specs.Quotes.{quoteRowsOf}
 use Rattle.day.specs.Settled.{Settled}
 use Rattle.day.specs.Tables.{Table, Booked}
 use Rattle.day.proofs.Tables.{table-eq}
@@ -48,7 +49,8 @@ module _ (limit : ℕ) (book book′ : Table → List ℕ → Booked) (sheet she
       let e = same-history ps in
       let orders = d .orders ps ∙ ap ordersOf e ∙ sym (d′ .orders ps) in
       let mark = d .mark ps ∙ ap isOver e ∙ sym (d′ .mark ps) in
-      table-eq orders mark
+      let quotes = d .quotes ps ∙ ap quoteRowsOf e ∙ sym (d′ .quotes ps) in
+      table-eq orders quotes mark
 
   same-sheet : (ps : List (List ℕ)) → sheet (tableAfter book ps) ≡ sheet′ (tableAfter book′ ps)
   same-sheet ps =

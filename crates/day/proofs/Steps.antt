@@ -16,7 +16,7 @@ use Rattle.order.specs.declared.Figures.{Figures}
 use Rattle.order.specs.declared.Key.{Key}
 use Rattle.order.specs.declared.Order.{Order}
 use Rattle.day.specs.History.{History, isExecution, isBreak, isCancel, isReplace, isMaker, replaces, addIf, sumOf, left}
-use Rattle.day.specs.History.{grants, linesThatMake, placeOf, elderOf, orderOf, ordersOf}
+use Rattle.day.specs.History.{grants, linesThatMake, placeOf, elderOf, orderOf, ordersOf, known}
 use Rattle.day.specs.Machine.{place, amend, withFigures, withPrice, newOrder, bookEvent}
 use Rattle.order.proofs.Sameness.{key-self, key-comm}
 use Rattle.day.proofs.Legal.{Follows, Legal, elder-known, apart, unreplaced, named-known, unknown-sum, unknown-passed, Made, made}
@@ -72,31 +72,33 @@ with-price : (t : Bool) (n : ℕ) (o : Order) → cond t (withPrice n o) o ≡ w
 with-price true n o = refl
 with-price false n o = refl
 
-module _ (h : History) (r m : Record) (f : Follows h r) where
+-- E, C, X and R, of an order that is known
+module _ (h : History) (r m : Record) (k : known (keyOf m) h ≡ true) where
   abbrev named : Bool
   named = sameKey (keyOf r) (keyOf m)
 
   executed-order : (t : Trade) → r .event ≡ Executed t
       → changed (keyOf r) (withFigures (λ f. executedBy f (r .contracts))) (orderOf h m) ≡ orderOf (line r ∷ h) m
   executed-order t q =
-      rw (q, key-comm (keyOf m) (keyOf r), named-known h r (keyOf m) f (ap isMaker q))
+      rw (q, key-comm (keyOf m) (keyOf r), named-known h r (keyOf m) k)
       (with-figures named (λ f. executedBy f (r .contracts)) (orderOf h m) _ (executed-if _ _ _ _ _ named (r .contracts)))
 
   cancelled-order : r .event ≡ Cancelled
       → changed (keyOf r) (withFigures (λ f. cancelledBy f (r .contracts))) (orderOf h m) ≡ orderOf (line r ∷ h) m
   cancelled-order q =
-      rw (q, key-comm (keyOf m) (keyOf r), named-known h r (keyOf m) f (ap isMaker q))
+      rw (q, key-comm (keyOf m) (keyOf r), named-known h r (keyOf m) k)
       (with-figures named (λ f. cancelledBy f (r .contracts)) (orderOf h m) _ (cancelled-if _ _ _ _ _ named (r .contracts)))
 
   broken-order : (t : Trade) → r .event ≡ Broken t
       → changed (keyOf r) (withFigures (λ f. brokenBy f (r .contracts))) (orderOf h m) ≡ orderOf (line r ∷ h) m
   broken-order t q =
-      rw (q, key-comm (keyOf m) (keyOf r), named-known h r (keyOf m) f (ap isMaker q))
+      rw (q, key-comm (keyOf m) (keyOf r), named-known h r (keyOf m) k)
       (with-figures named (λ f. brokenBy f (r .contracts)) (orderOf h m) _ (broken-if _ _ _ _ _ named (r .contracts)))
 
   repriced-order : r .event ≡ Repriced → changed (keyOf r) (withPrice (r .price)) (orderOf h m) ≡ orderOf (line r ∷ h) m
-  repriced-order q = rw (q, key-comm (keyOf m) (keyOf r), named-known h r (keyOf m) f (ap isMaker q)) (with-price named (r .price) (orderOf h m))
+  repriced-order q = rw (q, key-comm (keyOf m) (keyOf r), named-known h r (keyOf m) k) (with-price named (r .price) (orderOf h m))
 
+module _ (h : History) (r m : Record) (f : Follows h r) where
   elder-kept : Legal h → Made h m → elderOf m (linesThatMake h ++ (r ∷ [])) ≡ elderOf m (linesThatMake h)
   elder-kept l d = go (isReplace (m .event)) refl
     where
@@ -124,7 +126,7 @@ new-order h r l f q =
 
 -- ---- all orders
 
-map-same : {A B : Type 0} (f g : A → B) (l : List A) → ((x : A) → List·Memᴰ x l → f x ≡ g x) → map f l ≡ map g l
+pub map-same : {A B : Type 0} (f g : A → B) (l : List A) → ((x : A) → List·Memᴰ x l → f x ≡ g x) → map f l ≡ map g l
 map-same f g [] e = refl
 map-same {A} {B} f g (x ∷ l) e =
     ap₂ {B = List B} {C = List B} _∷_ (e x (List·Memᴰ·head refl)) (map-same f g l (λ y i. e y (List·Memᴰ·tail i)))
@@ -132,12 +134,12 @@ map-same {A} {B} f g (x ∷ l) e =
 module _ (h : History) (r : Record) (l : Legal h) (f : Follows h r) where
   -- a line that makes no order
   amended : (k : Key) (c : Order → Order) → isMaker (r .event) ≡ false
-      → ((m : Record) → changed k c (orderOf h m) ≡ orderOf (line r ∷ h) m)
+      → ((m : Record) → known (keyOf m) h ≡ true → changed k c (orderOf h m) ≡ orderOf (line r ∷ h) m)
       → amend k c (ordersOf h) ≡ ordersOf (line r ∷ h)
   amended k c q e =
       let kept : linesThatMake (line r ∷ h) ≡ linesThatMake h = rw q in
       amend-orders k c h l
-      ∙ map-same (λ m. changed k c (orderOf h m)) (orderOf (line r ∷ h)) (linesThatMake h) (λ m i. e m)
+      ∙ map-same (λ m. changed k c (orderOf h m)) (orderOf (line r ∷ h)) (linesThatMake h) (λ m i. e m (made h m l i .0))
       ∙ ap (map (orderOf (line r ∷ h))) (sym kept)
 
   -- a line that makes one
@@ -159,13 +161,13 @@ module _ (h : History) (r : Record) (l : Legal h) (f : Follows h r) where
     where
       go : (e : Event) → r .event ≡ e → bookEvent e r (ordersOf h) ≡ ordersOf (line r ∷ h)
       go Accepted q = appended (orderOf h) 0 (ap isMaker q) (λ m. rw q) (rw q)
-      go (Executed t) q = amended _ _ (ap isMaker q) (λ m. executed-order h r m f t q)
-      go Cancelled q = amended _ _ (ap isMaker q) (λ m. cancelled-order h r m f q)
-      go (Broken t) q = amended _ _ (ap isMaker q) (λ m. broken-order h r m f t q)
+      go (Executed t) q = amended _ _ (ap isMaker q) (λ m k. executed-order h r m k t q)
+      go Cancelled q = amended _ _ (ap isMaker q) (λ m k. cancelled-order h r m k q)
+      go (Broken t) q = amended _ _ (ap isMaker q) (λ m k. broken-order h r m k t q)
       go Replaced q =
           let k = elderKeyOf r in
           let elder = place k (ordersOf h) in
           ap (λ (os : List Order). os ++ (newOrder r (grants h r) elder ∷ [])) (amend-orders k (withFigures passedOn) h l)
           ∙ appended _ elder (ap isMaker q) (λ m. rw (q, key-comm (keyOf m) k))
           (rw (ap isReplace q) (place-order k h ∙ sym (place-kept k r h l (elder-known h r f (ap isReplace q)))))
-      go Repriced q = amended _ _ (ap isMaker q) (λ m. repriced-order h r m f q)
+      go Repriced q = amended _ _ (ap isMaker q) (λ m k. repriced-order h r m k q)

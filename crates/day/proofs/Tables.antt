@@ -2,5 +2,5 @@
 use mathlib.Core.Path.{_≡_}
 use Rattle.day.specs.Tables.{Table}
 
-pub table-eq : {t u : Table} → t .orders ≡ u .orders → t .over ≡ u .over → t ≡ u
-table-eq os over = λ i. record { orders = os i; over = over i }
+pub table-eq : {t u : Table} → t .orders ≡ u .orders → t .quotes ≡ u .quotes → t .over ≡ u .over → t ≡ u
+table-eq os quotes over = λ i. record { orders = os i; quotes = quotes i; over = over i }

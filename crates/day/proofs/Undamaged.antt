@@ -15,12 +15,13 @@ use Rattle.order.specs.Figure.{Sound}
 use Rattle.order.specs.declared.Figures.{Figures}
 use Rattle.order.specs.declared.Key.{Key}
 use Rattle.order.specs.declared.Order.{Order}
-use Rattle.day.specs.Damage.{allSound, eldersOf, earlier, unshared, openAt, closed, undamaged}
+use Rattle.day.specs.Damage.{allSound, eldersOf, earlier, unshared, openAt, closed, ordersUndamaged, quotesUndamaged, undamaged}
 use Rattle.order.specs.Stored.{lawfulKey, lawfulSeries, soundFigures, soundOrder}
 use Rattle.day.specs.Machine.{amend, withFigures, withPrice}
 use Rattle.day.specs.Tables.{Table}
 use Rattle.run.proofs.Tests.{both}
 use Rattle.day.proofs.Figures.{figures-sound, sound-figures}
+use Rattle.day.proofs.QuoteRows.{RowsUndamaged, rows-apart, rows-whole}
 use Rattle.day.proofs.Orders.{Finds, finds-sound, length-amend, map-amend, amend-sound, amend-shut, length-elders}
 use Rattle.day.proofs.Orders.{still-closed, earlier-behind, unshared-behind, closed-behind, sound-behind, openAt-behind}
 
@@ -31,9 +32,8 @@ pub record Undamaged (limit : ℕ) (os : List Order) : Type 0 where
   pub shut : closed os (eldersOf os) ≡ true
   pub sound : allSound os ≡ true
 
-pub apart : (limit : ℕ) (t : Table) → undamaged limit t ≡ true → Undamaged limit (t .orders)
-apart limit t e =
-    let os = t .orders in
+pub apart-orders : (limit : ℕ) (os : List Order) → ordersUndamaged limit os ≡ true → Undamaged limit os
+apart-orders limit os e =
     let es = eldersOf os in
     let a = both (leb (length os) limit && earlier 0 es && unshared es && closed os es) (allSound os) e in
     let b = both (leb (length os) limit && earlier 0 es && unshared es) (closed os es) (a .0) in
@@ -41,8 +41,17 @@ apart limit t e =
     let d = both (leb (length os) limit) (earlier 0 es) (c .0) in
     record { fits = leb-true (length os) limit (d .0); early = d .1; alone = c .1; shut = b .1; sound = a .1 }
 
-pub whole : (limit : ℕ) (t : Table) → Undamaged limit (t .orders) → undamaged limit t ≡ true
-whole limit t u = rw (le-leb (length (t .orders)) limit (u .fits), u .early, u .alone, u .shut, u .sound)
+pub whole-orders : (limit : ℕ) (os : List Order) → Undamaged limit os → ordersUndamaged limit os ≡ true
+whole-orders limit os u = rw (le-leb (length os) limit (u .fits), u .early, u .alone, u .shut, u .sound)
+
+pub apart : (limit : ℕ) (t : Table) → undamaged limit t ≡ true → Undamaged limit (t .orders)
+apart limit t e = apart-orders limit (t .orders) (both (ordersUndamaged limit (t .orders)) (quotesUndamaged (t .quotes)) e .0)
+
+pub apart-rows : (limit : ℕ) (t : Table) → undamaged limit t ≡ true → RowsUndamaged (t .quotes)
+apart-rows limit t e = rows-apart (t .quotes) (both (ordersUndamaged limit (t .orders)) (quotesUndamaged (t .quotes)) e .1)
+
+pub whole : (limit : ℕ) (t : Table) → Undamaged limit (t .orders) → RowsUndamaged (t .quotes) → undamaged limit t ≡ true
+whole limit t u v = rw (whole-orders limit (t .orders) u, rows-whole (t .quotes) v)
 
 -- all of an order but its figures
 abbrev unfigured : Order → Bool

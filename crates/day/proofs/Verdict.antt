@@ -1,25 +1,33 @@
 -- Booking on the table that a legal history declares: the answer is by the first refusal that applies, and what is accepted may follow.
 use Prim.Native.Nat.{ℕ}
 use native.Mathlib.Omega.{arith}
-use mathlib.Core.Path.{_≡_, refl, sym, ap, subst}
+use mathlib.Core.Path.{_≡_, refl, sym, ap, ap₂, subst, _∙_}
 use mathlib.Core.Logic.{_⊎_, inl, inr}
-use mathlib.Core.Bool.{Bool, true, false, cond, not-eq-not}
+use mathlib.Core.Bool.{Bool, true, false, cond, not, _&&_, not-eq-not}
 use mathlib.Core.List.{List, _∷_}
+use borrow.Author.Tests.{not-true}
 use lib.Dec.{eqb}
 use Rattle.refusal.specs.Answer.{Answer, value, refused}
 use Rattle.layout.proofs.Demand2.{demand2}
 use Rattle.layout.specs.Line.{Said, endOfDay, line, read}
 use Rattle.layout.specs.declared.Record.{Record}
+use Rattle.order.specs.Names.{keyOf}
+use Rattle.order.specs.declared.Key.{Key}
 use Rattle.order.specs.declared.Order.{Order}
+use Rattle.quote.specs.Quotes.{namesQuote}
+use Rattle.quote.specs.declared.QuoteRow.{QuoteRow}
 use Rattle.day.specs.Demand3.{joined}
-use Rattle.day.specs.History.{History}
+use Rattle.day.specs.History.{History, known}
+use Rattle.day.specs.Quotes.{isFill, belongs}
 use Rattle.day.specs.Machine.{refusalOf, accept, bookSaid, bookRead, book}
-use Rattle.day.specs.Tables.{Table, withOrders, Booked}
+use Rattle.day.specs.Tables.{Table, withOrders, withQuotes, Booked}
 use Rattle.day.specs.Refusals.{rules, NoneOf, FirstOf}
 use Rattle.day.proofs.Chain.{Judged, none-of, answerBy}
 use Rattle.day.proofs.Checks.{said-judged}
+use Rattle.run.proofs.Tests.{both}
 use Rattle.day.proofs.Legal.{Follows, Legal}
 use Rattle.day.proofs.Lookup.{dayOf}
+use Rattle.day.proofs.Quotes.{fill-new, fill-subject, filled}
 use Rattle.day.proofs.Steps.{booked}
 
 -- booking what a piece says, by whether no test refuses it
@@ -59,7 +67,12 @@ module _ (limit : ℕ) (h : History) (l : Legal h) (p : List ℕ) where
   follows r e n =
       record {
         fresh = λ q. not-eq-not {b = false} .0 (λ k. none-of 7 (rules limit h p) n (line r, e, (q, k)));
-        named = λ q. not-eq-not {b = true} .0 (λ k. none-of 8 (rules limit h p) n (line r, e, (q, k)));
+        named = λ q b. not-eq-not {b = true} .0 (λ k. none-of 8 (rules limit h p) n (line r, e, (q, k, rw b)));
+        rowed =
+            λ b x.
+            let (fill, others) = both (isFill (r .event)) (not (known (keyOf r) h)) (both (isFill (r .event) && not (known (keyOf r) h)) (namesQuote (r .token)) b .0) in
+            let unknown = ap (λ (k : Key). known k h) (fill-subject r fill) ∙ not-true (known (keyOf r) h) others in
+            not-eq-not {b = true} .0 (λ k. none-of 8 (rules limit h p) n (line r, e, (fill-new (r .event) fill, unknown, rw (k, b, x))));
       }
 
   -- what is accepted joins the history
@@ -69,8 +82,10 @@ module _ (limit : ℕ) (h : History) (l : Legal h) (p : List ℕ) where
       accepted : (x : Said) → read p ≡ value x → NoneOf (rules limit h p) → Legal (x ∷ h) × (accept x (dayOf h) ≡ dayOf (x ∷ h))
       accepted endOfDay e n = (l, refl)
       accepted (line r) e n =
-          let f = follows r e n in
-          ((f, l), ap (λ (os : List Order). withOrders os (dayOf h)) (booked h r l f))
+          let f = follows r e n in (
+            (f, l),
+            ap₂ (λ (os : List Order) (ws : List QuoteRow). withQuotes ws (withOrders os (dayOf h))) (booked h r l f) (filled h r l f),
+          )
 
       said : (x : Said) → read p ≡ value x → (t : Bool) → eqb (refusalOf limit (dayOf h) x) 0 ≡ t
           → let b = bookIf t (refusalOf limit (dayOf h) x) (dayOf h) x in

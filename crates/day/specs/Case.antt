@@ -102,4 +102,5 @@ pub record WholeCase (book : Table → List ℕ → Booked) (sheet : Table → S
         families = 2;
         -- "100 30 30 0 70 0 ABCD01 T1", "60 0 0 10 0 50 ABCD01 T2", "5 0 0 0 0 5 ABCD01 T9"
         rows = showing 1 1 0 100 30 30 0 70 0 1 ∷ showing 1 2 1 60 0 0 10 0 50 2 ∷ showing 2 1 2 5 0 0 0 0 5 9 ∷ [];
+        quotes = [];
       }

@@ -1,4 +1,4 @@
--- 01, Damaged, as far as it speaks of the orders of a table together.
+-- 01, Damaged, as far as it speaks of the orders of a table together; 02, 1: and of its quote rows.
 use Prim.Native.Nat.{ℕ, zero, suc, _+_, _-_}
 use mathlib.Core.Bool.{Bool, true, not, _&&_, _||_}
 use mathlib.Core.List.{List, [], _∷_, map}
@@ -7,6 +7,9 @@ use lib.ListN.{length}
 use Rattle.run.specs.Runs.{member}
 use Rattle.order.specs.Stored.{soundOrder}
 use Rattle.order.specs.declared.Order.{Order}
+use Rattle.quote.specs.Quotes.{mostRows}
+use Rattle.quote.specs.Rows.{unlike, allRowsSound}
+use Rattle.quote.specs.declared.QuoteRow.{QuoteRow}
 use Rattle.day.specs.Tables.{Table}
 
 abbrev pub allSound : List Order → Bool
@@ -36,8 +39,13 @@ abbrev pub closed : List Order → List ℕ → Bool
 closed os [] = true
 closed os (e ∷ es) = (eqb e 0 || eqb (openAt os (e - 1)) 0) && closed os es
 
+abbrev pub ordersUndamaged : ℕ → List Order → Bool
+ordersUndamaged limit os =
+    leb (length os) limit && earlier 0 (eldersOf os) && unshared (eldersOf os) && closed os (eldersOf os) && allSound os
+
+-- "Damaged also means over 128 rows, two alike in those four, one of the four breaking its rule, executed outside 1 to 4,294,967,295, or broken above executed"
+abbrev pub quotesUndamaged : List QuoteRow → Bool
+quotesUndamaged ws = leb (length ws) mostRows && unlike ws && allRowsSound ws
+
 abbrev pub undamaged : ℕ → Table → Bool
-undamaged limit t =
-    leb (length (t .orders)) limit && earlier 0 (eldersOf (t .orders)) && unshared (eldersOf (t .orders))
-    && closed (t .orders) (eldersOf (t .orders))
-    && allSound (t .orders)
+undamaged limit t = ordersUndamaged limit (t .orders) && quotesUndamaged (t .quotes)

@@ -1,7 +1,7 @@
 -- The tender's demand 3, in the order of its sentences, of any booking and any way to make the sheet. proofs/Demand3.antt proves it of ours.
 use Prim.Native.Nat.{ℕ, _+_, _≤_, _<_}
 use mathlib.Core.Path.{_≡_}
-use mathlib.Core.Bool.{true, cond}
+use mathlib.Core.Bool.{true, false, cond}
 use mathlib.Core.List.{List, [], _∷_}
 use mathlib.Core.Logic.{_↔_}
 use lib.ListN.{length, getD}
@@ -11,9 +11,11 @@ use Rattle.layout.specs.declared.Event.the-variants.{Replaced}
 use Rattle.layout.specs.declared.Record.{Record}
 use Rattle.order.specs.Names.{keyOf, sameKey}
 use Rattle.order.specs.declared.Order.{Order}
+use Rattle.quote.specs.declared.Quote.{Quote}
 use Rattle.day.specs.Damage.{undamaged, eldersOf}
 use Rattle.day.specs.History.{History, figuresOf, ordersOf, isOver, known, countOf, isNew, isMaker}
-use Rattle.day.specs.Listing.{Row, Sheet, membersOf, Each, Listed, shown, elderAt}
+use Rattle.day.specs.Quotes.{hasRow, quoteRowsOf}
+use Rattle.day.specs.Listing.{Row, Sheet, membersOf, Each, Listed, shown, shownQuote, elderAt}
 use Rattle.day.specs.Refusals.{rules, NoneOf, FirstOf}
 use Rattle.day.specs.Tables.{Table, empty, Booked}
 
@@ -81,12 +83,13 @@ abbrev pub AddsUp : Row → Type 0
 AddsUp q = let f = q .figures in f .size ≡ f .executed + f .cancelled + f .passed + f .«open»
 
 -- the sheet that a history asks for: N counts accepted A and U, F accepted A; families by the acceptance of their first order, each from
--- eldest to youngest; each row as the lines say
+-- eldest to youngest; each row as the lines say; 02, 1: below them the quote rows, "by first E, with sums from its own accepted lines"
 pub record IsSheet (h : History) (s : Sheet) : Type 0 where
   pub orders : s .orders ≡ countOf isMaker h
   pub families : s .families ≡ countOf isNew h
   pub listed : Listed (eldersOf (ordersOf h)) (membersOf (s .rows))
   pub told : Each (Tells h) (s .rows)
+  pub quotes : s .quotes ≡ quoteRowsOf h
 
 pub record Demand3 (limit : ℕ) (book : Table → List ℕ → Booked) (sheet : Table → Sheet) : Type 0 where
   -- "A line is accepted exactly when no refusal of the build paper applies to it after the lines accepted before it."
@@ -96,6 +99,11 @@ pub record Demand3 (limit : ℕ) (book : Table → List ℕ → Booked) (sheet :
       → shown i (membersOf (sheet (tableAfter book ps) .rows)) ≡ 1
   pub no-other : (ps : List (List ℕ)) (i : ℕ) → length (ordersOf (historyAfter book ps)) ≤ i
       → shown i (membersOf (sheet (tableAfter book ps) .rows)) ≡ 0
+  -- 02, 1: "each quote row also appears once", and no other: an accepted E made it
+  pub quote-once : (ps : List (List ℕ)) (q : Quote) → hasRow q (historyAfter book ps) ≡ true
+      → shownQuote q (sheet (tableAfter book ps) .quotes) ≡ 1
+  pub no-other-quote : (ps : List (List ℕ)) (q : Quote) → hasRow q (historyAfter book ps) ≡ false
+      → shownQuote q (sheet (tableAfter book ps) .quotes) ≡ 0
   -- "families by the acceptance of their first order, each from eldest to youngest", N and F counted; "Every figure equals what the accepted lines naming
   -- that order say": row by row, key and six figures
   pub sheet-so : (ps : List (List ℕ)) → IsSheet (historyAfter book ps) (sheet (tableAfter book ps))
@@ -103,8 +111,9 @@ pub record Demand3 (limit : ℕ) (book : Table → List ℕ → Booked) (sheet :
   pub only-so : (ps : List (List ℕ)) (s : Sheet) → IsSheet (historyAfter book ps) s → s ≡ sheet (tableAfter book ps)
   -- "and size equals executed plus cancelled plus passed on plus open"
   pub adds-up : (ps : List (List ℕ)) → Each AddsUp (sheet (tableAfter book ps) .rows)
-  -- the table too holds the orders that the accepted lines say, and whether the day is over
+  -- the table too holds the orders and the quote rows that the accepted lines say, and whether the day is over
   pub orders : (ps : List (List ℕ)) → tableAfter book ps .orders ≡ ordersOf (historyAfter book ps)
+  pub quotes : (ps : List (List ℕ)) → tableAfter book ps .quotes ≡ quoteRowsOf (historyAfter book ps)
   pub mark : (ps : List (List ℕ)) → tableAfter book ps .over ≡ isOver (historyAfter book ps)
   -- 01: "Every table reached from empty is undamaged."
   pub sound : (ps : List (List ℕ)) → undamaged limit (tableAfter book ps) ≡ true

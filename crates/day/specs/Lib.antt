@@ -1,5 +1,7 @@
 -- The day as its accepted lines declare it
 pub mod History
+-- The quote rows as its accepted lines declare them
+pub mod Quotes
 -- When each number applies, by the lines accepted before
 pub mod Refusals
 -- What a day keeps, and what booking a piece comes to

@@ -7,6 +7,9 @@ use lib.Dec.{eqb}
 use lib.ListN.{length, getD}
 use Rattle.order.specs.declared.Figures.{Figures}
 use Rattle.order.specs.declared.Key.{Key}
+use Rattle.quote.specs.Quotes.{sameQuote}
+use Rattle.quote.specs.declared.Quote.{Quote}
+use Rattle.quote.specs.declared.QuoteRow.{QuoteRow}
 use Rattle.day.specs.History.{addIf}
 
 -- a member of a family: the family and its place in it, both counted from 1, and where the order stands in order of acceptance, counted from 0
@@ -21,11 +24,12 @@ pub record Row : Type 0 where
   pub figures : Figures
   pub key : Key
 
--- `orders N families F`, then the rows
+-- `orders N families F`, then the rows, and below the families the quote rows (02, 1)
 pub record Sheet : Type 0 where
   pub orders : ℕ
   pub families : ℕ
   pub rows : List Row
+  pub quotes : List QuoteRow
 
 abbrev pub membersOf : List Row → List Member
 membersOf rows = map (λ (q : Row). q .member) rows
@@ -34,6 +38,11 @@ membersOf rows = map (λ (q : Row). q .member) rows
 abbrev pub Each : (Row → Type 0) → List Row → Type 0
 Each P [] = Unit {0}
 Each P (q ∷ rows) = P q × Each P rows
+
+-- 02, 1: how many rows of these are a quote's
+abbrev pub shownQuote : Quote → List QuoteRow → ℕ
+shownQuote q [] = 0
+shownQuote q (w ∷ ws) = addIf (sameQuote (w .quote) q) 1 (shownQuote q ws)
 
 -- ---- which order stands behind which. Elders are numbers from 1, and 0 is none
 

@@ -1,7 +1,7 @@
--- 01, Refusals by number, 1 to 3 and 6 to 12: each as a proposition about the accepted lines and the piece at hand.
-use Prim.Native.Nat.{ℕ, _-_, _≤_, _<_}
+-- 01, Refusals by number, 1 to 3 and 6 to 12, and 02, 1: each as a proposition about the accepted lines and the piece at hand.
+use Prim.Native.Nat.{ℕ, _+_, _-_, _≤_, _<_}
 use mathlib.Core.Path.{_≡_}
-use mathlib.Core.Bool.{true, false, cond, _||_}
+use mathlib.Core.Bool.{Bool, true, false, cond, _&&_, _||_}
 use mathlib.Core.List.{List, [], _∷_}
 use mathlib.Core.Logic.{_⊎_}
 use lib.ListN.{length}
@@ -10,7 +10,9 @@ use Rattle.layout.specs.Line.{Said, endOfDay, line, read}
 use Rattle.layout.specs.declared.Record.{Record}
 use Rattle.order.specs.Names.{keyOf, elderKeyOf, seriesOf}
 use Rattle.order.specs.declared.Key.{Key}
+use Rattle.quote.specs.Quotes.{mostRows, mostExecuted, quoteOf}
 use Rattle.day.specs.History.{History, isNew, isExecution, isCancel, isBreak, isReplace, isReprice, isMaker, known, lineThatMade, linesThatMake, isOver, executedOf, brokenOf, openOf}
+use Rattle.day.specs.Quotes.{belongs, filledOf, hasRow, quotesOf}
 
 -- the order that a line speaks of: for U, the elder
 abbrev pub subject : Record → Key
@@ -19,6 +21,18 @@ subject r = cond (isReplace (r .event)) (elderKeyOf r) (keyOf r)
 -- that order is there, and P holds of it
 abbrev pub OfOrder : History → Record → Type 0 → Type 0
 OfOrder h r P = (isNew (r .event) ≡ false) × (known (subject r) h ≡ true) × P
+
+-- 02, 1: an E that belongs to a quote row, which it makes if it must, or a C that finds its row
+abbrev pub finds : History → Record → Bool
+finds h r = belongs h r && (isExecution (r .event) || hasRow (quoteOf r) h)
+
+-- the line belongs to a quote row that is there, and P holds of it
+abbrev pub OfRow : History → Record → Type 0 → Type 0
+OfRow h r P = (belongs h r ≡ true) × (hasRow (quoteOf r) h ≡ true) × P
+
+-- to one that is not there yet
+abbrev pub OfNewRow : History → Record → Type 0 → Type 0
+OfNewRow h r P = (belongs h r ≡ true) × (hasRow (quoteOf r) h ≡ false) × P
 
 -- one side and one series
 abbrev pub Alike : Record → Record → Type 0
@@ -33,10 +47,10 @@ abbrev pub KnownKey : History → Said → Type 0
 KnownKey h endOfDay = ⊥
 KnownKey h (line r) = (isMaker (r .event) ≡ true) × (known (keyOf r) h ≡ true)
 
--- "E C X R: the key isn't in the table; U: the elder's key isn't"
+-- "E C X R: the key isn't in the table; U: the elder's key isn't"; "8 no longer for such an E, nor for a C that finds its row"
 abbrev pub UnknownKey : History → Said → Type 0
 UnknownKey h endOfDay = ⊥
-UnknownKey h (line r) = (isNew (r .event) ≡ false) × (known (subject r) h ≡ false)
+UnknownKey h (line r) = (isNew (r .event) ≡ false) × (known (subject r) h ≡ false) × (finds h r ≡ false)
 
 -- "E C X R U: side or series differs from that order's (for U, the elder's)"
 abbrev pub OtherSeries : History → Said → Type 0
@@ -51,16 +65,25 @@ NotOpen h (line r) =
     ((((isExecution (r .event) || isCancel (r .event)) ≡ true) × (openOf (subject r) h < r .contracts))
     ⊎ (((isReplace (r .event) || isReprice (r .event)) ≡ true) × (openOf (subject r) h ≡ 0)))
 
--- "C: n is more than executed less broken"
+-- "C: n is more than executed less broken"; of a quote row "11 as for orders"
 abbrev pub NotExecuted : History → Said → Type 0
 NotExecuted h endOfDay = ⊥
 NotExecuted h (line r) =
+    let q = quoteOf r in
     OfOrder h r ((isBreak (r .event) ≡ true) × (executedOf (subject r) h - brokenOf (subject r) h < r .contracts))
+    ⊎ OfRow h r ((isBreak (r .event) ≡ true) × (filledOf isExecution q h - filledOf isBreak q h < r .contracts))
 
 -- "A or U: the table holds 512", or whatever its limit is
 abbrev pub Full : ℕ → History → Said → Type 0
 Full limit h endOfDay = ⊥
 Full limit h (line r) = (isMaker (r .event) ≡ true) × (limit ≤ length (linesThatMake h))
+
+-- 02, 1: "no quote row left or a row's executed above 4,294,967,295"
+abbrev pub RowFull : History → Said → Type 0
+RowFull h endOfDay = ⊥
+RowFull h (line r) =
+    OfNewRow h r ((isExecution (r .event) ≡ true) × (mostRows ≤ length (quotesOf h)))
+    ⊎ OfRow h r ((isExecution (r .event) ≡ true) × (mostExecuted < filledOf isExecution (quoteOf r) h + r .contracts))
 
 pub record Rule : Type 1 where
   pub number : ℕ
@@ -86,6 +109,7 @@ rules limit h p =
     ∷ rule 10 (Reads p (NotOpen h))
     ∷ rule 11 (Reads p (NotExecuted h))
     ∷ rule 12 (Reads p (Full limit h))
+    ∷ rule 13 (Reads p (RowFull h))
     ∷ []
 
 -- none applies

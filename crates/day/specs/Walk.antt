@@ -49,4 +49,5 @@ sheetOf t =
       orders = length (t .orders);
       families = rootCount (eldersOf (t .orders));
       rows = rowsFor (t .orders) (families 1 0 (eldersOf (t .orders)));
+      quotes = t .quotes;
     }

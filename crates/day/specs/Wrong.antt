@@ -16,8 +16,8 @@ use Rattle.order.specs.declared.Key.{Key}
 use Rattle.order.specs.declared.Order.{Order}
 use Rattle.day.specs.History.{isBreak}
 use Rattle.day.specs.Listing.{Row, Sheet, Each}
-use Rattle.day.specs.Machine.{Found, nobody, found, amend, Lookup, checksBy, firstOf, withFigures, bookEvent}
-use Rattle.day.specs.Tables.{Table, withOrders, withOver, Booked}
+use Rattle.day.specs.Machine.{Found, nobody, found, amend, Lookup, checksBy, firstOf, withFigures, bookEvent, bookQuotes}
+use Rattle.day.specs.Tables.{Table, withOrders, withQuotes, withOver, Booked}
 
 -- ---- 01, Promises of reader, table and sheet
 
@@ -60,7 +60,8 @@ exchanged (p ∷ []) = p ∷ []
 exchanged (p ∷ q ∷ rows) = withFiguresOf q p ∷ withFiguresOf p q ∷ rows
 
 abbrev pub exchanging : (Table → Sheet) → Table → Sheet
-exchanging sheet t = record { orders = sheet t .orders; families = sheet t .families; rows = exchanged (sheet t .rows) }
+exchanging sheet t =
+    record { orders = sheet t .orders; families = sheet t .families; rows = exchanged (sheet t .rows); quotes = sheet t .quotes }
 
 -- ---- 01, Errors a quick hand would make: our machine, with its two lookups and what an accepted line does left open
 
@@ -73,7 +74,7 @@ module _ (own theirs : Lookup) (effect : Effect) (limit : ℕ) where
 
   abbrev pub acceptWith : Said → Table → Table
   acceptWith endOfDay t = withOver t
-  acceptWith (line r) t = withOrders (effect (r .event) r (t .orders)) t
+  acceptWith (line r) t = withQuotes (bookQuotes (theirs r (t .orders)) r (t .quotes)) (withOrders (effect (r .event) r (t .orders)) t)
 
   abbrev pub bookReadWith : Table → Answer Said → Booked
   bookReadWith t (value x) =

@@ -19,7 +19,7 @@ use Rattle.day.proofs.Demand3.{demand3}
 use Rattle.table.specs.Promises.{Makes}
 use Rattle.table.specs.Tables.{limitOf, tableIn, sound, madeFrom}
 use Rattle.table.specs.declared.Made.{Made}
-use Rattle.table.proofs.Limits.{limit-is, limit-none}
+use Rattle.table.proofs.Limits.{limit-is, limit-none, least-length}
 use Rattle.table.proofs.Making.{taken}
 use Rattle.book.specs.Bytes.{bookBytes, bookAnswer, bytesAfter}
 use Rattle.book.specs.Promises.{Books, bookingOf}
@@ -136,4 +136,10 @@ delivered before meant =
     }
 
 pub delivery : Delivery
-delivery = record { limit = sym (limit-is 40968 refl); no-other = λ n h. sym (limit-none n h); longest = least-sheet; delivered = delivered }
+delivery =
+    record {
+      limit = sym (limit-is 40968 (sym least-length));
+      no-other = λ n h. sym (limit-none n (λ e. h (e ∙ least-length)));
+      longest = least-sheet;
+      delivered = delivered;
+    }

@@ -31,7 +31,9 @@ use Rattle.day.specs.Machine.{place, checks, refusalOf, bookRead}
 use Rattle.day.specs.Tables.{Table, Booked}
 use Rattle.day.proofs.Chain.{first-number}
 use Rattle.table.specs.Entries.{placeOr8, lookUpAnswer, copyAnswer, copiedFrom}
-use Rattle.slot.specs.Slots.{slotWidth, keyIn}
+use Rattle.section.specs.declared.Section.{Section}
+use Rattle.slot.specs.Slots.{keyIn}
+use Rattle.slot.specs.Places.{slots}
 use Rattle.table.specs.Tables.{tableLength, leastLimit, limitOf, countIn, tableIn, sound, makeAnswer, madeFrom}
 use Rattle.book.specs.Bytes.{bookAnswer, bookBytes}
 use Rattle.book.proofs.Refuted.{refusal-stays}
@@ -143,10 +145,10 @@ look-up-told : (s k : List ℕ) → Told (lookUpAnswer s k)
 look-up-told s k =
     both Told (sound s) (both Told (eqb (length k) 26) (place-told (place (keyIn k) (tableIn s .orders))) (other UnknownKey refl)) (other Damaged refl)
 
-copy-told : (s : List ℕ) (i : ℕ) (before : List ℕ) → Told (copyAnswer s i before)
-copy-told s i before =
+copy-told : (c : Section) (n : ℕ) (s : List ℕ) (i : ℕ) (before : List ℕ) → Told (copyAnswer c n s i before)
+copy-told c n s i before =
     both Told (sound s)
-    (both Told (ltb (length before) slotWidth) (other NoRoom refl) (both Told (ltb i (countIn s)) (given tt) (other UnknownKey refl))) (other Damaged refl)
+    (both Told (ltb (length before) (c .width)) (other NoRoom refl) (both Told (ltb i n) (given tt) (other UnknownKey refl))) (other Damaged refl)
 
 sheet-told : (s before : List ℕ) → Told (sheetAnswer s before)
 unfolding sheetAnswer
@@ -234,7 +236,7 @@ demand1 =
       empty-table-answers = λ before r after h. told (make-told before) (h .said);
       check-table-answers = λ table r h. rw (h .said) (both Answers (sound table) (inl refl) (inr (Damaged, refl, λ e. absurd (omega arith))));
       find-order-answers = λ table key p r p' h. told (look-up-told table key) (h .said);
-      order-at-answers = λ table i before r after h. told (copy-told table i before) (h .said);
+      order-at-answers = λ table i before r after h. told (copy-told slots (countIn table) table i before) (h .said);
       book-answers = λ before piece r after h. told (book-told before piece) (h .said);
       book-all-answers = λ table text answers used booked r after given used' booked' h.
           (told (book-all-told table text answers) (h .said), all-answered table text answers used booked r after given used' booked' h);
@@ -258,7 +260,7 @@ demand1 =
       empty-table-stays = λ before r after h k. lent-stays (makeAnswer before) (h .said) k (λ a. madeFrom a before) (λ n f. refl) (h .out);
       find-order-stays = λ table key p r p' h k. number-stays (lookUpAnswer table key) (h .said) k (λ x. x) p (h .told);
       order-at-stays = λ table i before r after h k.
-          lent-stays (copyAnswer table i before) (h .said) k (λ a. copiedFrom a table i before) (λ n f. refl) (h .out);
+          lent-stays (copyAnswer slots (countIn table) table i before) (h .said) k (λ a. copiedFrom a slots table i before) (λ n f. refl) (h .out);
       book-stays = λ before piece r after h k. h .out ∙ refusal-stays before piece (sym (refusal (bookAnswer before piece) (h .said) k .2));
       book-all-stays = λ table text answers used booked r after given used' booked' h k.
           let a = bookAllAnswer table text answers in (

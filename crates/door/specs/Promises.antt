@@ -14,7 +14,9 @@ use Rattle.layout.specs.Strikes.{strikeValue, strikeForm}
 use Rattle.layout.specs.declared.Clock.{Clock}
 use Rattle.layout.specs.declared.Strike.{Strike}
 use Rattle.table.specs.Entries.{lookUpAnswer, copyAnswer, copiedFrom}
-use Rattle.table.specs.Tables.{makeAnswer, madeFrom, sound}
+use Rattle.section.specs.declared.Section.{Section}
+use Rattle.slot.specs.Places.{slots}
+use Rattle.table.specs.Tables.{countIn, makeAnswer, madeFrom, sound}
 use Rattle.book.specs.Bytes.{bookAnswer, bookBytes}
 use Rattle.book_all.specs.Promises.{bookAllAnswer, tableFrom, answersFrom}
 use Rattle.book_all.specs.declared.Used.{Used}
@@ -96,10 +98,14 @@ pub record Finds (table key : List ℕ) (p r p' : ℕ) : Type 0 where
   pub said : r ≡ codeOf (lookUpAnswer table key)
   pub told : p' ≡ numberAfter (λ x. x) (lookUpAnswer table key) p
 
+-- record i of the n that a section of a table has
+pub record RecordsAt (c : Section) (n : ℕ) (table : List ℕ) (i : ℕ) (before : List ℕ) (r : ℕ) (after : List ℕ) : Type 0 where
+  pub said : r ≡ codeOf (copyAnswer c n table i before)
+  pub out : after ≡ copiedFrom (copyAnswer c n table i before) c table i before
+
 -- `skurzelt_order_at`
-pub record OrdersAt (table : List ℕ) (i : ℕ) (before : List ℕ) (r : ℕ) (after : List ℕ) : Type 0 where
-  pub said : r ≡ codeOf (copyAnswer table i before)
-  pub out : after ≡ copiedFrom (copyAnswer table i before) table i before
+abbrev pub OrdersAt : (table : List ℕ) (i : ℕ) (before : List ℕ) (r : ℕ) (after : List ℕ) → Type 0
+OrdersAt table = RecordsAt slots (countIn table) table
 
 -- `skurzelt_book`
 pub record BooksIn (before piece : List ℕ) (r : ℕ) (after : List ℕ) : Type 0 where

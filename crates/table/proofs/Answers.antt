@@ -2,7 +2,7 @@
 use Prim.Native.Nat.{ℕ, _-_, _≤_, _<_}
 use native.Mathlib.Omega.{arith}
 use mathlib.Core.Path.{_≡_, refl, sym, ap, _∙_}
-use mathlib.Core.Bool.{Bool, true, false, not, and-false, false≢true}
+use mathlib.Core.Bool.{Bool, true, false, not, _&&_, and-false, false≢true}
 use mathlib.Core.List.{List}
 use borrow.Author.Tests.{lt-ltb, le-leb, lt-leb, eq-eqb, ne-eqb, not-true, not-false}
 use lib.Dec.{eqb}
@@ -11,7 +11,7 @@ use Rattle.order.specs.declared.Order.{Order}
 use Rattle.table.specs.Passing.{isMarked, elderFits}
 use Rattle.slot.specs.Slots.{orderIn}
 use Rattle.slot.specs.Places.{slot}
-use Rattle.table.specs.Tables.{limitOf, countIn, headerSound, slotsSound, sound}
+use Rattle.table.specs.Tables.{limitOf, countIn, headerSound, slotsSound, rowsSound, sound}
 use Rattle.table.proofs.Sound.{sound-apart}
 
 -- ---- a test, and what it was said to be
@@ -57,6 +57,6 @@ module _ (s : List ℕ) where
   pub bad-header : headerSound s ≡ false → false ≡ sound s
   bad-header e = never (sound s) (λ good. false≢true (sym e ∙ its-header good))
 
-  pub good-header : 0 < limitOf (length s) → countIn s ≤ limitOf (length s) → headerSound s ≡ true → slotsSound s ≡ sound s
+  pub good-header : 0 < limitOf (length s) → countIn s ≤ limitOf (length s) → headerSound s ≡ true → (slotsSound s && rowsSound s) ≡ sound s
   unfolding sound
   good-header h k e = rw (lt-ltb 0 (limitOf (length s)) h, le-leb (countIn s) (limitOf (length s)) k, e)

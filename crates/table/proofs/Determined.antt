@@ -3,7 +3,8 @@ use Prim.Native.Nat.{ℕ}
 use mathlib.Core.Path.{_≡_, sym, ap, _∙_}
 use mathlib.Core.List.{List}
 use Rattle.refusal.proofs.OneNumber.{one-refusal}
-use Rattle.table.specs.Promises.{madeOf, foundOf, Makes, LooksUp, Copies}
+use Rattle.section.specs.declared.Section.{Section}
+use Rattle.table.specs.Promises.{madeOf, foundOf, Makes, LooksUp, CopiesOf}
 use Rattle.table.specs.declared.Found.{Found}
 use Rattle.table.specs.declared.Found.the-variants.{At as FoundAt, Refused as NotFound}
 use Rattle.table.specs.declared.Made.{Made}
@@ -27,6 +28,7 @@ make-determined before x y a b p q = (one-made x y (p .said ∙ sym (q .said)), 
 pub look-up-determined : (table key : List ℕ) (x y : Found) → LooksUp table key x → LooksUp table key y → x ≡ y
 look-up-determined table key x y p q = one-found x y (p .said ∙ sym (q .said))
 
-pub copy-determined : (table : List ℕ) (i : ℕ) (before : List ℕ) (x y : Made) (a b : List ℕ) → Copies table i before x a → Copies table i before y b
-    → (x ≡ y) × (a ≡ b)
-copy-determined table i before x y a b p q = (one-made x y (p .said ∙ sym (q .said)), p .out ∙ sym (q .out))
+-- an order as well as a quote row
+pub copy-determined : (c : Section) (n : ℕ) (table : List ℕ) (i : ℕ) (before : List ℕ) (x y : Made) (a b : List ℕ)
+    → CopiesOf c n table i before x a → CopiesOf c n table i before y b → (x ≡ y) × (a ≡ b)
+copy-determined c n table i before x y a b p q = (one-made x y (p .said ∙ sym (q .said)), p .out ∙ sym (q .out))

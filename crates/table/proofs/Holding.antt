@@ -1,8 +1,8 @@
--- Bytes that hold a table: what a change of an order, one order more and the day's end make of them.
+-- Bytes that hold a table: what a change of an order, one order more and the day's end make of them. proofs/RowHolding.antt has the quote rows.
 use Prim.Native.Nat.{ℕ, _+_, _-_, _≤_, _<_}
-use native.Mathlib.Nat.{zero-add}
+use native.Mathlib.Nat.{add-zero, zero-add}
 use native.Mathlib.Omega.{arith}
-use mathlib.Core.Path.{_≡_, refl, sym, ap, _∙_}
+use mathlib.Core.Path.{_≡_, refl, sym, ap, ap₂, _∙_}
 use mathlib.Core.Bool.{Bool, true, false}
 use mathlib.Core.List.{List, [], _∷_, _++_}
 use borrow.Author.Tests.{eqb-true, eqb-false}
@@ -23,8 +23,11 @@ use Rattle.slot.specs.Places.{slotAt, slot, ordersIn, SlotInside}
 use Rattle.slot.proofs.Laws.{stored-here, stored-elsewhere, header-kept, header-byte, orders-kept, orders-set, orders-append, length-orders, order-no}
 use Rattle.slot.proofs.Lookups.{at-found, amend-at}
 use Rattle.slot.proofs.Said.{length-slot}
+use Rattle.quote.specs.Quotes.{mostRows}
+use Rattle.quote_slot.specs.QuoteSlots.{rowsIn}
+use Rattle.quote_slot.proofs.Laws.{rows-kept}
 use Rattle.table.specs.Changes.{changed, appended}
-use Rattle.table.specs.Tables.{limitOf, countIn, spareIn, tableIn, tailZero}
+use Rattle.table.specs.Tables.{limitOf, countIn, rowCountIn, baseIn, spareIn, tableIn, tailZero}
 use Rattle.table.proofs.Fitting.{AllFit}
 use Rattle.table.proofs.Limits.{limit-small, slot-inside, slots-inside}
 
@@ -35,6 +38,7 @@ TailZero s k = tailZero s k ≡ true
 pub record Holds (s : List ℕ) (t : Table) : Type 0 where
   pub meant : 0 < limitOf (length s)
   pub few : countIn s ≤ limitOf (length s)
+  pub few-rows : rowCountIn s ≤ mostRows
   pub mark : getD s 4 0 ≤ 1
   pub spare : all isZero (spareIn s) ≡ true
   pub tails : (k : ℕ) → k < countIn s → TailZero s k
@@ -59,6 +63,18 @@ count-stored s b i = ap le (header-kept s b i 0 4 (omega arith))
 pub count-over : (s : List ℕ) → countIn (sets s 4 (1 ∷ [])) ≡ countIn s
 count-over s = ap le (part-before s (1 ∷ []) 4 0 4 (omega arith))
 
+-- ---- the quote rows, through a store that lies before them
+
+pub quotes-kept : (s b : List ℕ) (at : ℕ) → rowCountIn (sets s at b) ≡ rowCountIn s → at + length b ≤ baseIn s
+    → tableIn (sets s at b) .quotes ≡ tableIn s .quotes
+quotes-kept s b at same h =
+    ap₂ (λ len n. rowsIn (slotAt (limitOf len)) n (sets s at b)) (length-sets s at b) same
+    ∙ rows-kept (baseIn s) s b at (rowCountIn s) h
+
+-- the header lies before the rows
+pub header-before : (s : List ℕ) → 8 ≤ baseIn s
+header-before s = omega arith
+
 -- ---- an order is stored
 
 module _ (s : List ℕ) (i : ℕ) (o : Order) where
@@ -74,8 +90,14 @@ module _ (s : List ℕ) (i : ℕ) (o : Order) where
   same-mark : getD now 4 0 ≡ getD s 4 0
   same-mark = header-byte s (slotBytes o) i 4 (omega arith)
 
+  same-rows : rowCountIn now ≡ rowCountIn s
+  same-rows = header-byte s (slotBytes o) i 5 (omega arith)
+
   same-spare : spareIn now ≡ spareIn s
-  same-spare = header-kept s (slotBytes o) i 5 3 (omega arith)
+  same-spare = header-kept s (slotBytes o) i 6 2 (omega arith)
+
+  same-quotes : Fits o → i < limitOf (length s) → tableIn now .quotes ≡ tableIn s .quotes
+  same-quotes f l = quotes-kept s (slotBytes o) (slotAt i) same-rows (omega (arith, length-slot f))
 
   stored-tail : Fits o → SlotInside i s → (k : ℕ) → ((k ≡ i → ⊥) → TailZero s k) → TailZero now k
   stored-tail f room k h = go (eqb k i) refl
@@ -94,11 +116,12 @@ module _ (s : List ℕ) (i : ℕ) (o : Order) where
       record {
         meant = rw same-length (h .meant);
         few = rw (same-count, same-length) (h .few);
+        few-rows = rw same-rows (h .few-rows);
         mark = rw same-mark (h .mark);
         spare = rw same-spare (h .spare);
         tails = λ k m. stored-tail f (slot-inside (length s) i (omega (arith, h .few))) k (λ d. h .tails k (rw same-count at m));
         says =
-            table-eq orders (ap (λ b. eqb b 1) same-mark)
+            table-eq orders (same-quotes f (omega (arith, h .few))) (ap (λ b. eqb b 1) same-mark)
             ∙ ap (λ (t : Table). withOrders (set (t .orders) i o) t) (h .says);
       }
     where
@@ -127,7 +150,13 @@ changed-holds {s} k f i h e fit =
 
 -- ---- a store into the header
 
-tail-kept : (s b : List ℕ) (at : ℕ) → at + length b ≤ 8 → (k : ℕ) → TailZero s k → TailZero (sets s at b) k
+-- a byte behind a store
+pub byte-after : (s b : List ℕ) (at i : ℕ) → at + length b ≤ i → getD (sets s at b) i 0 ≡ getD s i 0
+byte-after s b at i h =
+    rw (add-zero i) at
+    (sym (getD-part (sets s at b) i 1 0 (omega arith)) ∙ ap (λ l. getD l 0 0) (part-after s b at i 1 h) ∙ getD-part s i 1 0 (omega arith))
+
+pub tail-kept : (s b : List ℕ) (at : ℕ) → at + length b ≤ 8 → (k : ℕ) → TailZero s k → TailZero (sets s at b) k
 tail-kept s b at small k z = ap (all isZero) (part-after s b at (slotAt k + 75) 5 (omega arith)) ∙ z
 
 -- one order more
@@ -157,14 +186,15 @@ module _ (s : List ℕ) (o : Order) where
       record {
         meant = rw long (h .meant);
         few = rw (count, long) (omega (arith, its-count));
+        few-rows = rw row-count (h .few-rows);
         mark = rw mark (h .mark);
-        spare = rw (part-after stored counted 0 5 3 (omega arith), same-spare s (countIn s) o) (h .spare);
+        spare = rw (part-after stored counted 0 6 2 (omega arith), same-spare s (countIn s) o) (h .spare);
         tails =
             λ k m.
             tail-kept stored counted 0 (omega arith) k
             (stored-tail s (countIn s) o f inside k (λ d. h .tails k (omega (arith, d, count, m))));
         says =
-            table-eq orders (ap (λ b. eqb b 1) mark)
+            table-eq orders quotes (ap (λ b. eqb b 1) mark)
             ∙ ap (λ (t : Table). withOrders (t .orders ++ (o ∷ [])) t) (h .says);
       }
     where
@@ -180,11 +210,19 @@ module _ (s : List ℕ) (o : Order) where
       count : countIn (appended o s) ≡ countIn s + 1
       count = count-appended (omega (arith, its-count))
 
+      header-same : (i : ℕ) → 4 ≤ i → getD (appended o s) i 0 ≡ getD stored i 0
+      header-same i h = byte-after stored counted 0 i (omega arith)
+
       mark : getD (appended o s) 4 0 ≡ getD s 4 0
-      mark =
-          sym (getD-part (appended o s) 4 1 0 (omega arith)) ∙ ap (λ l. getD l 0 0) (part-after stored counted 0 4 1 (omega arith))
-          ∙ getD-part stored 4 1 0 (omega arith)
-          ∙ same-mark s (countIn s) o
+      mark = header-same 4 (omega arith) ∙ same-mark s (countIn s) o
+
+      row-count : rowCountIn (appended o s) ≡ rowCountIn s
+      row-count = header-same 5 (omega arith) ∙ same-rows s (countIn s) o
+
+      quotes : tableIn (appended o s) .quotes ≡ tableIn s .quotes
+      quotes =
+          quotes-kept stored counted 0 (header-same 5 (omega arith)) (omega (arith, header-before stored))
+          ∙ same-quotes s (countIn s) o f (omega (arith, its-count))
 
       orders : ordersIn 0 (countIn (appended o s)) (appended o s) ≡ ordersIn 0 (countIn s) s ++ (o ∷ [])
       orders =
@@ -197,10 +235,11 @@ over-holds {s} {t} h =
     record {
       meant = rw long (h .meant);
       few = rw (count, long) (h .few);
+      few-rows = rw row-count (h .few-rows);
       mark = rw mark (omega arith);
-      spare = rw (part-after s (1 ∷ []) 4 5 3 (omega arith)) (h .spare);
+      spare = rw (part-after s (1 ∷ []) 4 6 2 (omega arith)) (h .spare);
       tails = λ k m. tail-kept s (1 ∷ []) 4 (omega arith) k (h .tails k (rw count at m));
-      says = table-eq orders (ap (λ b. eqb b 1) mark) ∙ ap withOver (h .says);
+      says = table-eq orders (quotes-kept s (1 ∷ []) 4 row-count (omega (arith, header-before s))) (ap (λ b. eqb b 1) mark) ∙ ap withOver (h .says);
     }
   where
     long : length (sets s 4 (1 ∷ [])) ≡ length s
@@ -208,6 +247,9 @@ over-holds {s} {t} h =
 
     count : countIn (sets s 4 (1 ∷ [])) ≡ countIn s
     count = count-over s
+
+    row-count : rowCountIn (sets s 4 (1 ∷ [])) ≡ rowCountIn s
+    row-count = byte-after s (1 ∷ []) 4 5 (omega arith)
 
     mark : getD (sets s 4 (1 ∷ [])) 4 0 ≡ 1
     mark = getD-set-same s 4 1 0 (omega (arith, slots-inside (length s) 0 (h .meant) (omega arith)))

@@ -4,6 +4,10 @@ pub mod Limits
 pub mod Fitting
 -- Stored bytes follow the table through each of its changes
 pub mod Holding
+-- What a place says of the quote rows
+pub mod RowLookups
+-- Stored bytes follow the quote rows through their changes
+pub mod RowHolding
 -- Bytes are sound exactly where they hold an undamaged table
 pub mod Sound
 -- One flag goes up, and no other changes
@@ -12,6 +16,8 @@ pub mod Marking
 pub mod Splits
 -- What the damage check keeps from slot to slot
 pub mod Passes
+-- What it keeps from quote row to quote row
+pub mod RowPasses
 -- Each way out of the damage check
 pub mod Answers
 -- The empty table keeps its promise and is sound

@@ -9,6 +9,9 @@ use lib.Dec.{ltb, leb, eqb}
 use Rattle.run.specs.Runs.{all}
 use Rattle.slot.specs.Slots.{slotWidth}
 use Rattle.slot.specs.Places.{slotAt}
+use Rattle.quote.specs.Quotes.{mostRows}
+use Rattle.quote.proofs.Named.{row-number}
+use Rattle.quote_slot.specs.QuoteSlots.{rowAt}
 use Rattle.table.specs.Tables.{tableLength, leastLimit, limits, limitAmong, limitOf}
 use Rattle.run.proofs.Tests.{both}
 
@@ -70,6 +73,10 @@ pub limit-least : (len : ℕ) → 0 < limitOf len → tableLength leastLimit ≤
 unfolding limitOf
 limit-least len h = omega (arith, among-length limits len h, among-least leastLimit limits len refl h)
 
+-- the bytes of the table that code makes
+pub least-length : tableLength leastLimit ≡ 40968
+least-length = omega (arith, row-number)
+
 -- the code's test
 pub limit-is : (len : ℕ) → len ≡ tableLength leastLimit → leastLimit ≡ limitOf len
 unfolding limitOf
@@ -83,6 +90,13 @@ limit-none len e = rw (ne-eqb len (tableLength leastLimit) e)
 
 pub slot-inside : (len i : ℕ) → i < limitOf len → slotAt i + slotWidth ≤ len
 slot-inside len i h = omega (arith, limit-length len (omega arith))
+
+-- where the quote rows begin, and that all of them are inside
+pub base-inside : (len : ℕ) → 0 < limitOf len → rowAt (slotAt (limitOf len)) mostRows ≡ len
+base-inside len p = omega (arith, limit-length len p)
+
+pub rows-inside : (len n : ℕ) → 0 < limitOf len → n ≤ mostRows → rowAt (slotAt (limitOf len)) n ≤ len
+rows-inside len n p h = omega (arith, limit-length len p)
 
 pub slots-inside : (len n : ℕ) → 0 < limitOf len → n ≤ limitOf len → slotAt n ≤ len
 slots-inside len n p h = omega (arith, limit-length len p)

@@ -1,5 +1,6 @@
 -- Making the empty table: each answer keeps the promise, and the table made is sound and empty.
 use Prim.Native.Nat.{ℕ, _<_, _≤_}
+use native.Mathlib.Nat.{zero-add}
 use native.Mathlib.Omega.{arith}
 use mathlib.Core.Path.{_≡_, refl, sym, ap, _∙_}
 use mathlib.Core.Bool.{true}
@@ -16,7 +17,9 @@ use Rattle.run.proofs.Parts.{getD-part, part-whole, part-inside}
 use Rattle.day.proofs.Tables.{table-eq}
 use Rattle.table.specs.Promises.{Makes}
 use Rattle.slot.specs.Places.{ordersIn}
-use Rattle.table.specs.Tables.{tableLength, leastLimit, limitOf, countIn, sound, makeAnswer, madeFrom}
+use Rattle.quote.specs.Quotes.{mostRows}
+use Rattle.quote_slot.specs.QuoteSlots.{rowsIn}
+use Rattle.table.specs.Tables.{tableLength, leastLimit, limitOf, countIn, rowCountIn, baseIn, sound, makeAnswer, madeFrom}
 use Rattle.table.specs.declared.Made.the-variants.{Done, Refused}
 use Rattle.table.proofs.Holding.{Holds}
 use Rattle.table.proofs.Limits.{limit-is, limit-least, slots-inside}
@@ -52,18 +55,22 @@ module _ (before : List ℕ) (h : 0 < limitOf (length before)) where
       let room = slots-inside (length before) 0 h (omega arith) in
       let inside = part-inside before zeros 0 in
       let count : countIn s ≡ 0 = ap le (inside 0 4 (omega arith) (omega arith) (omega arith)) in
-      let mark : getD s 4 0 ≡ 0 = sym (getD-part s 0 8 4 (omega arith)) ∙ ap (λ l. getD l 4 0) (part-whole before zeros 0 8 (omega arith) refl) in
+      let zero-at : (i : ℕ) → i < 8 → getD s i 0 ≡ getD zeros i 0 =
+      λ i l. rw (zero-add i) at (sym (getD-part s 0 8 i l) ∙ ap (λ l. getD l i 0) (part-whole before zeros 0 8 (omega arith) refl)) in
+      let mark : getD s 4 0 ≡ 0 = zero-at 4 (omega arith) in
+      let no-rows : rowCountIn s ≡ 0 = zero-at 5 (omega arith) in
       record {
         meant = rw (length-sets before 0 zeros) h;
         few = rw count (omega arith);
+        few-rows = rw no-rows (omega arith);
         mark = omega arith;
-        spare = rw (inside 5 3 (omega arith) (omega arith) (omega arith));
+        spare = rw (inside 6 2 (omega arith) (omega arith) (omega arith));
         tails = λ k l. absurd (omega arith);
-        says = table-eq (ap (λ n. ordersIn 0 n s) count) (ap (λ b. eqb b 1) mark);
+        says = table-eq (ap (λ n. ordersIn 0 n s) count) (ap (λ n. rowsIn (baseIn s) n s) no-rows) (ap (λ b. eqb b 1) mark);
       }
 
   pub empty-sound : sound s ≡ true
-  empty-sound = holds-sound empty-holds (rw (le-leb 0 (limitOf (length s)) (omega arith)))
+  empty-sound = holds-sound empty-holds (rw (le-leb 0 (limitOf (length s)) (omega arith), le-leb 0 mostRows (omega arith)))
 
 -- ---- a buffer to make it in
 

@@ -10,11 +10,11 @@ use lib.Dec.{leb, eqb}
 use lib.ListN.{length, replicate}
 use Rattle.run.specs.Runs.{member}
 use Rattle.order.specs.declared.Order.{Order}
-use Rattle.day.specs.Damage.{eldersOf, openAt, undamaged}
+use Rattle.day.specs.Damage.{eldersOf, openAt, ordersUndamaged}
 use Rattle.order.specs.Stored.{soundOrder}
 use Rattle.run.proofs.Tests.{both, either}
 use Rattle.day.proofs.Orders.{length-elders, sole-member, member-behind}
-use Rattle.day.proofs.Undamaged.{Undamaged, apart, whole, behind}
+use Rattle.day.proofs.Undamaged.{Undamaged, apart-orders, whole-orders, behind}
 use Rattle.table.specs.Passing.{Marks, isMarked, roomIn, openIn, slotFits, elderFits}
 use Rattle.slot.specs.Slots.{orderIn}
 use Rattle.slot.specs.Places.{ordersIn, slot}
@@ -46,14 +46,14 @@ pub all-passed : (s flags : List ℕ) (i : ℕ) → countIn s ≤ i → Passed s
 all-passed s flags i h p =
     let e : i ≡ countIn s = omega (arith, p .inside) in
     let z : countIn s - i ≡ 0 = omega arith in
-    sym (rw (p .tails, z) (whole (limitOf (length s)) (tableIn s) (rw e at (p .orders))))
+    sym (rw (p .tails, z) (whole-orders (limitOf (length s)) (tableIn s .orders) (rw e at (p .orders))))
 
 -- what undamaged slots are
 slots-apart : (s : List ℕ) → slotsSound s ≡ true
     → (tailsZero 0 (countIn s) s ≡ true) × Undamaged (limitOf (length s)) (ordersIn 0 (countIn s) s)
 slots-apart s t =
-    let a = both (tailsZero 0 (countIn s) s) (undamaged (limitOf (length s)) (tableIn s)) t in
-    (a .0, apart (limitOf (length s)) (tableIn s) (a .1))
+    let a = both (tailsZero 0 (countIn s) s) (ordersUndamaged (limitOf (length s)) (tableIn s .orders)) t in
+    (a .0, apart-orders (limitOf (length s)) (tableIn s .orders) (a .1))
 
 -- what an elder that fits is
 elder-parts : (s flags : List ℕ) (i e : ℕ) → elderFits s flags i e ≡ true

@@ -8,13 +8,16 @@ use borrow.Author.Tests.{ltb-true, leb-true, lt-ltb, le-leb, eqb-true, eqb-false
 use lib.Dec.{ltb, leb, eqb}
 use lib.ListN.{length, getD}
 use Rattle.run.specs.Runs.{all, isZero}
-use Rattle.day.specs.Damage.{undamaged}
+use Rattle.day.specs.Damage.{ordersUndamaged, undamaged}
+use Rattle.day.proofs.QuoteRows.{rows-apart}
 use Rattle.day.specs.Tables.{Table}
 use Rattle.slot.specs.Places.{slotAt}
-use Rattle.table.specs.Tables.{limitOf, countIn, spareIn, tableIn, tailZero, tailsZero, headerSound, slotsSound, sound}
+use Rattle.quote_slot.specs.QuoteSlots.{rowAt}
+use Rattle.quote_slot.proofs.Laws.{length-rows}
+use Rattle.table.specs.Tables.{limitOf, countIn, rowCountIn, baseIn, spareIn, tableIn, tailZero, tailsZero, headerSound, slotsSound, rowsSound, sound}
 use Rattle.run.proofs.Tests.{both}
 use Rattle.table.proofs.Holding.{TailZero, Holds}
-use Rattle.table.proofs.Limits.{slots-inside}
+use Rattle.table.proofs.Limits.{slots-inside, rows-inside}
 
 -- ---- tails, all and each
 
@@ -34,7 +37,7 @@ each-tails i (suc n) s h = rw (h i (omega arith) (omega arith)) (each-tails (i +
 
 -- ---- sound
 
--- a sound table: its bytes hold it, and its orders are undamaged
+-- a sound table: its bytes hold it, and its orders and quote rows are undamaged
 pub record Sound (s : List ℕ) : Type 0 where
   pub bytes : Holds s (tableIn s)
   pub orders : undamaged (limitOf (length s)) (tableIn s) ≡ true
@@ -43,21 +46,24 @@ pub sound-apart : (s : List ℕ) → sound s ≡ true → Sound s
 unfolding sound
 sound-apart s e =
     let limit = limitOf (length s) in
-    let parts = both _ (slotsSound s) e in
-    let slots = both (tailsZero 0 (countIn s) s) (undamaged limit (tableIn s)) (parts .1) in
+    let whole = both _ (rowsSound s) e in
+    let parts = both _ (slotsSound s) (whole .0) in
+    let slots = both (tailsZero 0 (countIn s) s) (ordersUndamaged limit (tableIn s .orders)) (parts .1) in
     let front = both _ (headerSound s) (parts .0) in
+    let fits = rows-apart (tableIn s .quotes) (whole .1) .fits in
     let header = both (leb (getD s 4 0) 1) (all isZero (spareIn s)) (front .1) in
     let count = both (ltb 0 limit) (leb (countIn s) limit) (front .0) in
     let bytes : Holds s (tableIn s) =
     record {
       meant = ltb-true 0 limit (count .0);
       few = leb-true (countIn s) limit (count .1);
+      few-rows = omega (arith, fits, length-rows (baseIn s) (rowCountIn s) s);
       mark = leb-true (getD s 4 0) 1 (header .0);
       spare = header .1;
       tails = λ k l. tails-each 0 (countIn s) s (slots .0) k (omega arith) (omega arith);
       says = refl;
     } in
-    record { bytes = bytes; orders = slots .1 }
+    record { bytes = bytes; orders = rw (slots .1, whole .1) }
 
 pub holds-sound : {s : List ℕ} {t : Table} → Holds s t → undamaged (limitOf (length s)) t ≡ true → sound s ≡ true
 unfolding sound
@@ -78,3 +84,6 @@ header-there s e = omega (arith, slots-inside (length s) 0 (sound-apart s e .byt
 
 pub slots-there : (s : List ℕ) → sound s ≡ true → slotAt (countIn s) ≤ length s
 slots-there s e = let b = sound-apart s e .bytes in slots-inside (length s) (countIn s) (b .meant) (b .few)
+
+pub rows-there : (s : List ℕ) → sound s ≡ true → rowAt (baseIn s) (rowCountIn s) ≤ length s
+rows-there s e = let b = sound-apart s e .bytes in rows-inside (length s) (rowCountIn s) (b .meant) (b .few-rows)

@@ -1,4 +1,4 @@
--- What a host asks of a lent table: where an order stands, and the order at a place.
+-- What a host asks of a lent table: where an order stands, and the order or the quote row (02, 1) at a place.
 use Prim.Native.Nat.{ℕ, zero, suc}
 use mathlib.Core.Bool.{cond}
 use mathlib.Core.List.{List}
@@ -7,9 +7,10 @@ use lib.ListN.{length}
 use lib.Seq.{sets}
 use Rattle.refusal.specs.Answer.{Answer, value, refused}
 use Rattle.day.specs.Machine.{place}
-use Rattle.slot.specs.Slots.{slotWidth, keyIn}
-use Rattle.slot.specs.Places.{slot}
-use Rattle.table.specs.Tables.{countIn, tableIn, sound}
+use Rattle.section.specs.Sections.{recordOf}
+use Rattle.section.specs.declared.Section.{Section}
+use Rattle.slot.specs.Slots.{keyIn}
+use Rattle.table.specs.Tables.{tableIn, sound}
 
 -- a place that is counted from 1, 0 being none
 abbrev pub placeOr8 : ℕ → Answer ℕ
@@ -21,12 +22,12 @@ abbrev pub lookUpAnswer : List ℕ → List ℕ → Answer ℕ
 lookUpAnswer s k =
     cond (sound s) (cond (eqb (length k) 26) (placeOr8 (place (keyIn k) (tableIn s .orders))) (refused 8 0)) (refused 5 0)
 
--- the order at place i, into a lent buffer: 5, 4, then 8
-abbrev pub copyAnswer : List ℕ → ℕ → List ℕ → Answer (Unit {0})
-copyAnswer s i before =
-    cond (sound s) (cond (ltb (length before) slotWidth) (refused 4 0) (cond (ltb i (countIn s)) (value tt) (refused 8 0))) (refused 5 0)
+-- record i of the n that a section has, into a lent buffer: 5, 4, then 8
+abbrev pub copyAnswer : Section → ℕ → List ℕ → ℕ → List ℕ → Answer (Unit {0})
+copyAnswer c n s i before =
+    cond (sound s) (cond (ltb (length before) (c .width)) (refused 4 0) (cond (ltb i n) (value tt) (refused 8 0))) (refused 5 0)
 
--- its slot as it stands
-abbrev pub copiedFrom : Answer (Unit {0}) → List ℕ → ℕ → List ℕ → List ℕ
-copiedFrom (value u) s i before = sets before 0 (slot s i)
-copiedFrom (refused n f) s i before = before
+-- its bytes as they stand
+abbrev pub copiedFrom : Answer (Unit {0}) → Section → List ℕ → ℕ → List ℕ → List ℕ
+copiedFrom (value u) c s i before = sets before 0 (recordOf c s i)
+copiedFrom (refused n f) c s i before = before

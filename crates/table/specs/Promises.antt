@@ -3,14 +3,17 @@ use Prim.Native.Nat.{ℕ}
 use mathlib.Core.Path.{_≡_}
 use mathlib.Core.List.{List}
 use Rattle.refusal.specs.Answer.{Answer, value, refusedBy}
+use Rattle.section.specs.declared.Section.{Section}
+use Rattle.slot.specs.Places.{slots}
+use Rattle.quote_slot.specs.QuoteSlots.{rows}
 use Rattle.table.specs.Entries.{lookUpAnswer, copyAnswer, copiedFrom}
-use Rattle.table.specs.Tables.{makeAnswer, madeFrom}
+use Rattle.table.specs.Tables.{countIn, rowCountIn, baseIn, makeAnswer, madeFrom}
 use Rattle.table.specs.declared.Found.{Found}
 use Rattle.table.specs.declared.Found.the-variants.{At as FoundAt, Refused as NotFound}
 use Rattle.table.specs.declared.Made.{Made}
 use Rattle.table.specs.declared.Made.the-variants.{Done, Refused}
 
--- the answer of what is made in a lent buffer, an empty table or a copy of an order, in the paper's terms
+-- the answer of what is made in a lent buffer, an empty table or a copy of an order or a quote row, in the paper's terms
 abbrev pub madeOf : Made → Answer (Unit {0})
 madeOf Done = value tt
 madeOf (Refused r) = refusedBy r
@@ -29,7 +32,15 @@ foundOf (NotFound r) = refusedBy r
 pub record LooksUp (table key : List ℕ) (x : Found) : Type 0 where
   pub said : foundOf x ≡ lookUpAnswer table key
 
--- `table::copy_order`: `after` is the lent buffer when it returns
-pub record Copies (table : List ℕ) (i : ℕ) (before : List ℕ) (x : Made) (after : List ℕ) : Type 0 where
-  pub said : madeOf x ≡ copyAnswer table i before
-  pub out : after ≡ copiedFrom (copyAnswer table i before) table i before
+-- record i of the n that a section of a table has: `after` is the lent buffer when it returns
+pub record CopiesOf (c : Section) (n : ℕ) (table : List ℕ) (i : ℕ) (before : List ℕ) (x : Made) (after : List ℕ) : Type 0 where
+  pub said : madeOf x ≡ copyAnswer c n table i before
+  pub out : after ≡ copiedFrom (copyAnswer c n table i before) c table i before
+
+-- `table::copy_order`
+abbrev pub Copies : (table : List ℕ) (i : ℕ) (before : List ℕ) (x : Made) (after : List ℕ) → Type 0
+Copies table = CopiesOf slots (countIn table) table
+
+-- `table::copy_row`
+abbrev pub CopiesRow : (table : List ℕ) (i : ℕ) (before : List ℕ) (x : Made) (after : List ℕ) → Type 0
+CopiesRow table = CopiesOf (rows (baseIn table)) (rowCountIn table) table

@@ -8,13 +8,15 @@ use lib.Seq.{sets}
 use Rattle.run.specs.Runs.{part, all, isZero}
 use Rattle.cell.specs.Cells.{le}
 use Rattle.refusal.specs.Answer.{Answer, value, refused}
-use Rattle.day.specs.Damage.{undamaged}
-use Rattle.day.specs.Tables.{Table, empty, withOrders, withMark}
+use Rattle.quote.specs.Quotes.{mostRows}
+use Rattle.day.specs.Damage.{ordersUndamaged, quotesUndamaged}
+use Rattle.day.specs.Tables.{Table, empty, withOrders, withQuotes, withMark}
 use Rattle.slot.specs.Places.{slotAt, ordersIn}
+use Rattle.quote_slot.specs.QuoteSlots.{rowAt, rowsIn}
 
--- the bytes of a table with room for so many orders
+-- the bytes of a table with room for so many orders: the quote rows stand behind the slots (02, 1)
 abbrev pub tableLength : ℕ → ℕ
-tableLength limit = slotAt limit
+tableLength limit = rowAt (slotAt limit) mostRows
 
 -- 01, Orders and their figures: "A table holds at most 512 orders"
 abbrev pub leastLimit : ℕ
@@ -35,13 +37,22 @@ limitOf n = limitAmong limits n
 abbrev pub countIn : List ℕ → ℕ
 countIn s = le (part s 0 4)
 
--- three bytes of the header, kept for the counts of quote rows (02, 1) and of trades (02, 7); they have no meaning yet
+-- how many quote rows there are (02, 1)
+abbrev pub rowCountIn : List ℕ → ℕ
+rowCountIn s = getD s 5 0
+
+-- where they begin
+abbrev pub baseIn : List ℕ → ℕ
+baseIn s = slotAt (limitOf (length s))
+
+-- two bytes of the header, kept for the count of trades (02, 7); they have no meaning yet
 abbrev pub spareIn : List ℕ → List ℕ
-spareIn s = part s 5 3
+spareIn s = part s 6 2
 
 -- the table that the bytes say
 abbrev pub tableIn : List ℕ → Table
-tableIn s = withMark (eqb (getD s 4 0) 1) (withOrders (ordersIn 0 (countIn s) s) empty)
+tableIn s =
+    withMark (eqb (getD s 4 0) 1) (withQuotes (rowsIn (baseIn s) (rowCountIn s) s) (withOrders (ordersIn 0 (countIn s) s) empty))
 
 -- the last five bytes of a slot are 0
 abbrev pub tailZero : List ℕ → ℕ → Bool
@@ -58,11 +69,15 @@ headerSound s = leb (getD s 4 0) 1 && all isZero (spareIn s)
 
 -- all slots in use
 abbrev pub slotsSound : List ℕ → Bool
-slotsSound s = tailsZero 0 (countIn s) s && undamaged (limitOf (length s)) (tableIn s)
+slotsSound s = tailsZero 0 (countIn s) s && ordersUndamaged (limitOf (length s)) (tableIn s .orders)
 
--- 01, Damaged: a length or a stored byte that the layout gives no meaning, or orders that are damaged
+-- all quote rows in use
+abbrev pub rowsSound : List ℕ → Bool
+rowsSound s = quotesUndamaged (tableIn s .quotes)
+
+-- 01, Damaged: a length or a stored byte that the layout gives no meaning, or orders that are damaged; 02, 1: or quote rows
 unfoldable pub sound : List ℕ → Bool
-sound s = ltb 0 (limitOf (length s)) && leb (countIn s) (limitOf (length s)) && headerSound s && slotsSound s
+sound s = ltb 0 (limitOf (length s)) && leb (countIn s) (limitOf (length s)) && headerSound s && slotsSound s && rowsSound s
 
 -- 01, Refusals by number, 4 and 5: making the empty table in a lent buffer
 abbrev pub makeAnswer : List ℕ → Answer (Unit {0})

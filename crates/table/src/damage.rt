@@ -3,8 +3,10 @@ ghost use Prim.Native.Nat.{_≤_, _<_};
 ghost use mathlib.Core.Path.{_≡_};
 ghost use lib.ListN.{length};
 ghost use Rattle.table.specs.Passing.{elderFits, roomIn, slotFits};
+ghost use Rattle.quote.specs.Rows.{allRowsSound};
 ghost use Rattle.slot.specs.Places.{SlotInside};
-ghost use Rattle.table.specs.Tables.{countIn, limitOf, slotsSound, sound};
+ghost use Rattle.quote_slot.specs.QuoteSlots.{rowAt, rowsIn};
+ghost use Rattle.table.specs.Tables.{countIn, limitOf, rowsSound, slotsSound, sound};
 use crate::FLAGS;
 use crate::flags;
 use crate::header;
@@ -63,6 +65,34 @@ fn sound_slots(t: &[u8], n: usize) -> bool
     true
 }
 
+// Each of the first n quote rows by itself.
+fn each_sound(t: &[u8], base: usize, n: usize) -> bool
+    requires { ⌜ rowAt base n ≤ length (now t) ⌝ }
+    ensures { λ r. ⌜ r ≡ allRowsSound (rowsIn base n (now (t .entry))) ⌝ }
+{
+    let mut i = 0;
+    while i < n {
+        if !quote::sound_row(quote_slot::row_at(t, base, i)) {
+            return false;
+        }
+        i += 1;
+    }
+    true
+}
+
+// No row is read before it is known that so many are there.
+fn sound_rows(t: &[u8]) -> bool
+    requires { ⌜ 0 < limitOf (length (now t)) ⌝ }
+    ensures { λ r. ⌜ r ≡ rowsSound (now (t .entry)) ⌝ }
+{
+    let n = header::row_count(t);
+    if quote::most_rows() < n {
+        return false;
+    }
+    let base = header::base(t.len());
+    quote_slot::unlike(t, base, n) & each_sound(t, base, n)
+}
+
 // For every slice of bytes: nothing is read before the length says that it is there.
 pub fn is_sound(t: &[u8]) -> bool
     ensures { λ r. ⌜ r ≡ sound (now (t .entry)) ⌝ }
@@ -78,5 +108,5 @@ pub fn is_sound(t: &[u8]) -> bool
     if !header::sound_header(t) {
         return false;
     }
-    sound_slots(t, n as usize)
+    sound_slots(t, n as usize) & sound_rows(t)
 }

@@ -1,4 +1,4 @@
-// The header of a lent table: how many orders there are, of how many that it has room for, and whether the day is over.
+// The header of a lent table: how many orders there are, of how many that it has room for, whether the day is over, and how many quote rows there are.
 ghost use Prim.Native.Nat.{_≤_};
 ghost use mathlib.Core.Path.{_≡_};
 ghost use mathlib.Core.List.{[], _∷_};
@@ -6,13 +6,15 @@ ghost use lib.Dec.{eqb};
 ghost use lib.ListN.{length, getD, replicate};
 ghost use lib.Seq.{sets};
 ghost use Rattle.cell.specs.Cells.{leBytes};
-ghost use Rattle.table.specs.Tables.{countIn, headerSound, limitOf};
+ghost use Rattle.slot.specs.Places.{slotAt};
+ghost use Rattle.table.specs.Tables.{countIn, headerSound, limitOf, rowCountIn};
 use crate::LIMIT;
 use crate::TABLE;
 use slot::HEADER;
+use slot::SLOT;
 
-// Bytes kept for the counts of quote rows (02, 1) and of trades (02, 7): the rest of the header.
-const SPARE: usize = 5;
+// Bytes kept for the count of trades (02, 7): the rest of the header.
+const SPARE: usize = 6;
 
 const SPARES: usize = HEADER - SPARE;
 
@@ -49,6 +51,28 @@ pub fn put_over(t: &mut [u8])
     ensures { λ _. ⌜ now (t .exit) ≡ sets (now (t .entry)) 4 (1 ∷ []) ⌝ }
 {
     t[4] = 1;
+}
+
+// How many quote rows there are (02, 1).
+pub fn row_count(t: &[u8]) -> usize
+    requires { ⌜ 8 ≤ length (now t) ⌝ }
+    ensures { λ r. ⌜ r ≡ rowCountIn (now (t .entry)) ⌝ }
+{
+    t[5] as usize
+}
+
+pub(crate) fn put_row_count(t: &mut [u8], n: u8)
+    requires { ⌜ 8 ≤ length (now t) ⌝ }
+    ensures { λ _. ⌜ now (t .exit) ≡ sets (now (t .entry)) 5 (n ∷ []) ⌝ }
+{
+    t[5] = n;
+}
+
+// Where the quote rows of a table of so many bytes begin: behind its slots.
+pub fn base(len: usize) -> usize
+    ensures { λ r. ⌜ r ≡ slotAt (limitOf len) ⌝ }
+{
+    HEADER + SLOT * limit(len) as usize
 }
 
 // The mark of the day's end, and the bytes behind it that must be 0.

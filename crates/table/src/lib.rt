@@ -1,21 +1,29 @@
-// The lent table: its header, the empty table, one order more, the damage check, and what a host asks of it.
+// The lent table: its header, the empty table, one order more, its quote rows, the damage check, and what a host asks of it.
 mod asked;
 pub mod damage;
 mod empty;
 mod flags;
 pub mod header;
 mod orders;
+mod rows;
 
 pub use asked::copy_order;
+pub use asked::copy_row;
 pub use asked::look_up;
 pub use empty::make_empty;
 pub use orders::append;
 use refusal::Refusal;
+pub use rows::append_row;
+pub use rows::find_row;
+pub use rows::row_at;
+pub use rows::store_row;
 
 // The most orders that a table holds, and its bytes. `header::limit` says which lengths have a meaning.
 pub const LIMIT: u64 = 512;
 
-pub const TABLE: usize = slot::HEADER + slot::SLOT * LIMIT as usize;
+pub const TABLE: usize = slot::HEADER
+    + slot::SLOT * LIMIT as usize
+    + quote_slot::ROW * quote::MOST_ROWS;
 
 // A flag for each number that an elder can have.
 const FLAGS: usize = LIMIT as usize;

@@ -1,5 +1,6 @@
 -- `table::damage::is_sound` meets its contract.
-use mathlib.Core.Path.{sym, _∙_}
+use mathlib.Core.Path.{sym, ap₂, _∙_}
+use mathlib.Core.Bool.{_&&_}
 use native.Mathlib.Omega.{arith}
 use borrow.Author.Needs.{needs}
 use denote.Ref.{now}
@@ -30,8 +31,14 @@ returns-3 c = bad-header (now (c .before .before .before .before .before .before
 sound-slots-requires : tie.Need-sound-slots-requires
 sound-slots-requires c κs = search needs
 
+sound-rows-requires : tie.Need-sound-rows-requires
+sound-rows-requires c κs = omega (arith, c .before .before .before .before .before .before .limit .ensures, c .before .before .before .before .before .if1 .left)
+
 returns-4 : tie.Need-returns-4
-returns-4 c = c .sound-slots .ensures ∙ good-header (now (c .before .before .before .before .before .before .before .before .args .t)) (omega arith) (omega arith) (upheld _ _ (c .before .before .sound-header .ensures) (c .before .if3 .left))
+returns-4 c =
+    let header = c .before .before in
+    ap₂ _&&_ (c .before .sound-slots .ensures) (c .sound-rows .ensures)
+    ∙ good-header (now (header .before .before .before .before .before .before .before .args .t)) (omega arith) (omega arith) (upheld _ _ (header .before .sound-header .ensures) (header .if3 .left))
 
 pub is-sound-spec : {M : Type 1} → statement M
 is-sound-spec =
@@ -44,4 +51,5 @@ is-sound-spec =
     sound-header-requires
     returns-3
     sound-slots-requires
+    sound-rows-requires
     returns-4)

@@ -3,18 +3,19 @@ use mathlib.Core.Path.{sym, _∙_}
 use native.Mathlib.Omega.{arith}
 use borrow.Author.Needs.{needs}
 use denote.Ref.{now}
+use Rattle.table.proofs.Limits.{least-length}
 use Rattle.table.proofs.Making.{too-short, no-meaning, made}
 use Rattle.table.proofs.empty.make_empty.Statement.{statement}
 use Rattle.table.proofs.empty.make_empty.Tie as tie
 
 returns : tie.Need-returns
-returns c = too-short (now (c .before .before .args .t)) (search needs)
+returns c = too-short (now (c .before .before .args .t)) (omega (arith, least-length))
 
 limit-requires : tie.Need-limit-requires
 limit-requires c κs = search needs
 
 returns-2 : tie.Need-returns-2
-returns-2 c = no-meaning (now (c .before .before .before .before .args .t)) (search needs) (sym (c .before .limit .ensures) ∙ c .if2 .taken)
+returns-2 c = no-meaning (now (c .before .before .before .before .args .t)) (omega (arith, least-length)) (sym (c .before .limit .ensures) ∙ c .if2 .taken)
 
 clear-requires : tie.Need-clear-requires
 clear-requires c κs = search needs
