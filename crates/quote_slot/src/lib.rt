@@ -1,6 +1,6 @@
 // A quote row at its place in lent bytes (docs/LAYOUT.md), and the row of a quote. Where the first row begins is the caller's to say.
 mod finding;
-mod offset;
+pub mod offset;
 mod read;
 mod write;
 

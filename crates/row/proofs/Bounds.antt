@@ -1,13 +1,17 @@
--- How long the heading and a row can be, by the limit of the table, for orders whose figures have at most six digits.
+-- How long the heading and a row can be, by the limit of the table, for orders whose figures have at most six digits; and the line of a sound quote row.
 use Prim.Native.Nat.{ℕ, _≤_}
 use native.Mathlib.Omega.{arith}
 use mathlib.Core.Path.{_≡_}
-use lib.ListN.{length}
+use mathlib.Core.Bool.{true}
+use lib.ListN.{length, take, length-take}
 use Rattle.order.specs.declared.Figures.{Figures}
 use Rattle.order.specs.declared.Order.{Order}
-use Rattle.row.specs.Texts.{decimal, figuresText, heading, orderText, longestHeading, longestRow}
+use Rattle.quote.specs.Quotes.{soundRow}
+use Rattle.quote.specs.declared.QuoteRow.{QuoteRow}
+use Rattle.quote_slot.proofs.Room.{row-fits}
+use Rattle.row.specs.Texts.{decimal, figuresText, heading, orderText, quoteText, longestHeading, longestRow, longestQuote}
 use Rattle.row.proofs.Decimals.{decimal-length, decimal-grows}
-use Rattle.row.proofs.Puts.{heading-length, rank-length, traded-length, figures-length, names-length, row-length}
+use Rattle.row.proofs.Puts.{heading-length, rank-length, traded-length, figures-length, names-length, row-length, fills-length, line-length}
 use Rattle.row.proofs.Trimming.{trimmed-most}
 
 pub figure-bound : (n : ℕ) → n ≤ 999999 → length (decimal n) ≤ 6
@@ -36,3 +40,12 @@ row-bound limit family rank o h k size executed broken cancelled passed left sou
     let c = figures-bound (o .figures) size executed broken cancelled passed left in
     let d = trimmed-most (o .key .token) in
     omega (arith, row-length family rank o, rank-length family rank, names-length (o .key .source) (o .key .token))
+
+-- 02, 1: sixteen characters, two numbers up to 4,294,967,295 and six Source bytes
+pub quote-bound : (w : QuoteRow) → soundRow w ≡ true → length (quoteText w) ≤ longestQuote
+quote-bound w e =
+    let f = row-fits w e in
+    let id = take 16 (w .quote .key .token) in
+    let executed = decimal-length (w .executed) 10 (omega arith) (omega (arith, f .executed)) .1 in
+    let broken = decimal-length (w .broken) 10 (omega arith) (omega (arith, f .broken)) .1 in
+    omega (arith, line-length id (w .executed) (w .broken) (w .quote .key .source), fills-length id (w .executed) (w .broken), length-take 16 (w .quote .key .token), f .quote .source .0)

@@ -8,5 +8,7 @@ pub mod Trimming
 pub mod Puts
 -- A row from the parts of an order's slot
 pub mod Lent
--- A heading has at most 24 bytes, a row 78
+-- The line of a quote row from the parts of its bytes
+pub mod LentQuote
+-- A heading has at most 24 bytes, a row 78, the line of a quote row 52
 pub mod Bounds

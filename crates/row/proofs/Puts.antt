@@ -9,7 +9,7 @@ use lib.Seq.{sets}
 use Rattle.field.specs.Number.{filled}
 use Rattle.order.specs.declared.Figures.{Figures}
 use Rattle.order.specs.declared.Order.{Order}
-use Rattle.row.specs.Texts.{decimal, trimmed, heading, rankText, tradedText, figuresText, namesText, orderText}
+use Rattle.row.specs.Texts.{decimal, trimmed, heading, rankText, tradedText, figuresText, namesText, orderText, fillsText, lineText}
 use Rattle.row.specs.Writes.{Put, Wrote}
 use Rattle.run.proofs.Stores.{sets-append}
 use Rattle.row.proofs.Decimals.{decimal-filled}
@@ -53,6 +53,16 @@ names-put source token l₀ l₁ l₂ l₃ l₄ l₅ at n long left a b c d e =
     let all = then (then first second) (run-put (10 ∷ []) (rw behind at e)) in
     record { end = omega (arith, all .end); out = all .out }
 
+-- what stands before the Source of a quote, a space, the Source, an LF
+pub line-put : (id source l₀ l₁ l₂ l₃ l₄ : List ℕ) (executed broken m : ℕ) → Put (fillsText id executed broken) 0 l₀ l₁ m → l₂ ≡ sets l₁ m (32 ∷ [])
+    → l₃ ≡ sets l₂ (m + 1) source → l₄ ≡ sets l₃ (m + 1 + length source) (10 ∷ [])
+    → Wrote (lineText id executed broken source) l₀ l₄ (m + 2 + length source)
+line-put id source l₀ l₁ l₂ l₃ l₄ executed broken m fills a b c =
+    let space : Put (32 ∷ []) m l₁ l₂ (m + 1) = run-put (32 ∷ []) a in
+    let last : Put (32 ∷ source) m l₁ l₃ (m + 1 + length source) = then space (run-put source b) in
+    let all = then (then fills last) (run-put (10 ∷ []) c) in
+    from-front (record { end = omega (arith, all .end); out = all .out })
+
 -- ---- lengths
 
 pub heading-length : (n f : ℕ) → length (heading n f) ≡ 18 + length (decimal n) + length (decimal f)
@@ -78,3 +88,16 @@ row-length family rank o = three (rankText family rank) (figuresText (o .figures
   where
     three : (a b c : List ℕ) → length (a ++ b ++ c) ≡ length a + length b + length c
     three a b c = simp (length-append {A = ℕ})
+
+pub fills-length : (id : List ℕ) (executed broken : ℕ) → length (fillsText id executed broken) ≡ 8 + length id + length (decimal executed) + length (decimal broken)
+fills-length id executed broken = behind id (decimal executed) (decimal broken)
+  where
+    behind : (s a b : List ℕ) → length ((113 ∷ 117 ∷ 111 ∷ 116 ∷ 101 ∷ 32 ∷ []) ++ s ++ (32 ∷ a) ++ (32 ∷ b)) ≡ 8 + length s + length a + length b
+    behind s a b = simp (length-append {A = ℕ}) (omega arith)
+
+pub line-length : (id : List ℕ) (executed broken : ℕ) (source : List ℕ)
+    → length (lineText id executed broken source) ≡ 2 + length (fillsText id executed broken) + length source
+line-length id executed broken source = behind (fillsText id executed broken) source
+  where
+    behind : (s a : List ℕ) → length (s ++ (32 ∷ a) ++ (10 ∷ [])) ≡ 2 + length s + length a
+    behind s a = simp (length-append {A = ℕ}) (omega arith)

@@ -1,4 +1,4 @@
--- The heading and a row, as bytes
+-- The heading, a row and the line of a quote row, as bytes
 pub mod Texts
 -- What a writer leaves in a lent buffer
 pub mod Writes

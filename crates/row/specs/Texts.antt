@@ -1,11 +1,12 @@
--- 01, The sheet: the heading and a row, as the bytes of a text.
+-- 01, The sheet, and 02, 1: the heading, a row, and the line of a quote row, as the bytes of a text.
 use Prim.Native.Nat.{ℕ, zero, suc, _+_, _*_, _/_, _%_}
 use mathlib.Core.Bool.{cond}
 use mathlib.Core.List.{List, [], _∷_, _++_}
 use lib.Dec.{ltb, eqb}
-use lib.ListN.{length}
+use lib.ListN.{length, take}
 use Rattle.order.specs.declared.Figures.{Figures}
 use Rattle.order.specs.declared.Order.{Order}
+use Rattle.quote.specs.declared.QuoteRow.{QuoteRow}
 use Rattle.day.specs.Listing.{Row}
 
 -- at most w digits of a number
@@ -76,3 +77,25 @@ longestHeading limit = 18 + 2 * length (decimal limit)
 
 abbrev pub longestRow : ℕ → ℕ
 longestRow limit = 72 + 2 * length (decimal limit)
+
+-- ---- 02, 1: the line of a quote row
+
+-- "quote "
+abbrev pub quoteWord : List ℕ
+quoteWord = 113 ∷ 117 ∷ 111 ∷ 116 ∷ 101 ∷ 32 ∷ []
+
+-- "`quote`, the id in its 16 characters, executed, broken"
+abbrev pub fillsText : (id : List ℕ) (executed broken : ℕ) → List ℕ
+fillsText id executed broken = quoteWord ++ id ++ column (decimal executed) ++ column (decimal broken)
+
+-- and "Source", with LF at the end as a row of the families has it
+abbrev pub lineText : (id : List ℕ) (executed broken : ℕ) (source : List ℕ) → List ℕ
+lineText id executed broken source = fillsText id executed broken ++ column source ++ (10 ∷ [])
+
+-- printed "as `quote`, the id in its 16 characters, executed, broken, Source"
+abbrev pub quoteText : QuoteRow → List ℕ
+quoteText w = lineText (take 16 (w .quote .key .token)) (w .executed) (w .broken) (w .quote .key .source)
+
+-- the longest line, where executed, and so broken, is at most 4,294,967,295
+abbrev pub longestQuote : ℕ
+longestQuote = 52

@@ -1,4 +1,4 @@
-// The heading of the sheet and a row of it: the order at a place, its family and its place in it.
+// The heading of the sheet and a row of it: the order at a place, its family and its place in it; and the line of a quote row.
 ghost use Prim.Native.Nat.{_+_, _≤_};
 ghost use mathlib.Core.Path.{_≡_};
 ghost use lib.ListN.{length, take};
@@ -9,6 +9,7 @@ ghost use Rattle.row.specs.Writes.{Put, Wrote};
 
 pub mod decimal;
 pub mod heading;
+pub mod quotes;
 
 use order::Figures;
 use slot::HEADER;
