@@ -7,10 +7,7 @@ use mathlib.Core.List.{List}
 use borrow.Author.Tests.{lt-ltb, le-leb, lt-leb, eq-eqb, ne-eqb, not-true, not-false}
 use lib.Dec.{eqb}
 use lib.ListN.{length, getD}
-use Rattle.order.specs.declared.Order.{Order}
-use Rattle.table.specs.Passing.{isMarked, elderFits}
-use Rattle.slot.specs.Slots.{orderIn}
-use Rattle.slot.specs.Places.{slot}
+use Rattle.table.specs.Passing.{isMarked, openIn, elderFits}
 use Rattle.table.specs.Tables.{limitOf, countIn, headerSound, slotsSound, rowsSound, sound}
 use Rattle.table.proofs.Sound.{sound-apart}
 
@@ -34,9 +31,9 @@ module _ (s flags : List ℕ) (i e : ℕ) where
   pub claimed : (e ≡ 0 → ⊥) → isMarked flags e ≡ true → false ≡ elderFits s flags i e
   claimed z m = rw (ne-eqb e 0 z, m, and-false)
 
-  pub unclaimed : (o : Order) → e ≤ i → (e ≡ 0 → ⊥) → isMarked flags e ≡ false → o ≡ orderIn (slot s (e - 1))
-      → eqb (o .figures .«open») 0 ≡ elderFits s flags i e
-  unclaimed o h z m q = ap (λ (x : Order). eqb (x .figures .«open») 0) q ∙ rw (le-leb e i h, ne-eqb e 0 z, m)
+  pub unclaimed : (n : ℕ) → e ≤ i → (e ≡ 0 → ⊥) → isMarked flags e ≡ false → n ≡ openIn s (e - 1)
+      → eqb n 0 ≡ elderFits s flags i e
+  unclaimed n h z m q = ap (λ x. eqb x 0) q ∙ rw (le-leb e i h, ne-eqb e 0 z, m)
 
 -- ---- a table
 

@@ -38,8 +38,7 @@ fn sound_elder(t: &[u8], flags: &[u8], i: usize, e: usize) -> bool
     if flags::marked(flags, e) {
         return false;
     }
-    let elder = slot::order_at(t, e - 1);
-    elder.figures.open == 0
+    slot::open_at(t, e - 1) == 0
 }
 
 // One pass over the slots in use. The elders of those that it has seen are marked.

@@ -18,16 +18,18 @@ marked-requires c κs = search needs
 returns-3 : tie.Need-returns-3
 returns-3 c = claimed _ _ _ _ (c .before .before .if2 .left) (sym (c .before .marked .ensures) ∙ c .if3 .taken)
 
-sub-order-at : tie.Need-sub-order-at
-sub-order-at c = search needs
+sub-open-at : tie.Need-sub-open-at
+sub-open-at c = search needs
 
-order-at-requires : tie.Need-order-at-requires
-order-at-requires c κs = search needs
+open-at-requires : tie.Need-open-at-requires
+open-at-requires c κs = search needs
 
 returns-4 : tie.Need-returns-4
-returns-4 c = unclaimed _ _ _ _ _ (omega (arith, c .before .before .before .before .before .if1 .left)) (c .before .before .before .before .if2 .left) (sym (c .before .before .before .marked .ensures) ∙ c .before .before .if3 .left) (c .before .order-at .ensures)
+returns-4 c =
+    let free = c .before in
+    unclaimed _ _ _ _ _ (omega (arith, free .before .before .before .if1 .left)) (free .before .before .if2 .left) (sym (free .before .marked .ensures) ∙ free .if3 .left) (c .open-at .ensures)
 
 pub sound-elder-spec : {M : Type 1} → statement M
 sound-elder-spec =
     tie.close
-    (tie.spec returns returns-2 marked-requires returns-3 sub-order-at order-at-requires returns-4)
+    (tie.spec returns returns-2 marked-requires returns-3 sub-open-at open-at-requires returns-4)
