@@ -16,7 +16,7 @@ use Rattle.index.specs.Searches.{firstOf, hasKey, earliest}
 use Rattle.index.specs.Tags.{bucketOf}
 use Rattle.index.specs.Indexes.{latest, bucketIn, Indexed, Answers}
 use Rattle.index.specs.declared.Sought.{Sought}
-use Rattle.index.specs.declared.Sought.the-variants.{Found, Long}
+use Rattle.index.specs.declared.Sought.the-variants.{Found}
 use Rattle.run.proofs.Sameness.{same-true}
 use Rattle.index.proofs.Firsts.{first-past}
 
@@ -111,18 +111,6 @@ module _ (keys : Section) (s : List ℕ) (n : ℕ) (heads nexts key : List ℕ) 
   pub walk-end : {best at : ℕ} → Walked best at → at ≤ 0 → best ≡ earliest keys s n key
   walk-end {best} {at} w l = let none : at ≡ 0 = omega arith in sym (w .kept ∙ rw none)
 
--- what a walk that came to the end of its chain answers, and one that did not
-module _ (earliest : ℕ → ℕ) (n : ℕ) (x : Sought) (a : Answers earliest n x) where
-  pub walk-found : (r : ℕ) → x ≡ Found r → r ≡ earliest n
-  walk-found r e = rw e at a
-
-  pub walk-left : (few best : ℕ) → x ≡ Long few best → (few ≤ n) × (earliest n ≡ orElse (earliest few) best)
-  walk-left few best e = rw e at a
-
--- nothing found, or else the best; something found is kept
-pub none-or : (a b best : ℕ) → a ≡ b → a ≡ 0 → best ≡ orElse b best
-none-or a b best e z = let none : b ≡ 0 = omega arith in rw none
-
-pub found-or : (a b best : ℕ) → a ≡ b → (a ≡ 0 → ⊥) → a ≡ orElse b best
-found-or a zero best e z = absurd (z e)
-found-or a (suc b) best e z = e
+-- what a walk that came to the end of its chain answers
+pub walk-found : (k r : ℕ) (x : Sought) → Answers k x → x ≡ Found r → r ≡ k
+walk-found k r x a e = rw e at a

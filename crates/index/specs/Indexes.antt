@@ -6,7 +6,6 @@ use mathlib.Core.List.{List}
 use lib.Dec.{eqb}
 use lib.ListN.{length, getD}
 use lib.Seq.{sets}
-use Rattle.run.specs.Found.{orElse}
 use Rattle.section.specs.Sections.{startOf, recordOf, Holds, KeyOf}
 use Rattle.section.specs.declared.Section.{Section}
 use Rattle.index.specs.Tags.{bucketOf}
@@ -30,10 +29,10 @@ pub record Indexed (keys : Section) (s : List ℕ) (n : ℕ) (heads nexts : List
   pub firsts : (b : ℕ) → b < length heads → getD heads b 0 ≡ latest (bucketIn keys s (length heads)) n b
   pub chains : (i : ℕ) → i < n → getD nexts i 0 ≡ latest (bucketIn keys s (length heads)) i (bucketIn keys s (length heads) i)
 
--- what a walk says of n records, where e tells the earliest of the first so many: it, or that it is among the first few, or else the best of the others
-abbrev pub Answers : (ℕ → ℕ) → ℕ → Sought → Type 0
-Answers e n (Found r) = r ≡ e n
-Answers e n (Long few best) = (few ≤ n) × (e n ≡ orElse (e few) best)
+-- what a walk says of the number sought: where the chain is too long, nothing
+abbrev pub Answers : ℕ → Sought → Type 0
+Answers k (Found r) = r ≡ k
+Answers k Long = Unit {0}
 
 -- ---- one record more
 

@@ -1,8 +1,6 @@
 // Lookup by key.
 ghost use mathlib.Core.Path.{_≡_};
 ghost use lib.ListN.{length};
-ghost use Rattle.run.specs.Found.{orElse};
-ghost use Rattle.section.specs.Sections.{Holds};
 ghost use Rattle.index.specs.Searches.{earliest};
 ghost use Rattle.index.specs.Tags.{bucketOf};
 ghost use Rattle.index.specs.Indexes.{Indexed, Answers};
@@ -27,14 +25,14 @@ fn walk(
     requires { ⌜ Indexed keys (now t) n (now heads) (now nexts) ⌝ }
     requires { ⌜ length (now key) ≡ keys .width ⌝ }
     requires { ⌜ b ≡ bucketOf (length (now heads)) (now key) ⌝ }
-    ensures { λ r. ⌜ Answers (λ m. earliest keys (now (t .entry)) m (now (key .entry))) n r ⌝ }
+    ensures { λ r. ⌜ Answers (earliest keys (now (t .entry)) n (now (key .entry))) r ⌝ }
 {
     let mut best: usize = 0;
     let mut at = heads[b] as usize;
     let mut left = LINKS;
     while 0 < at {
         if left == 0 {
-            return Sought::Long(at, best);
+            return Sought::Long;
         }
         left -= 1;
         let i = at - 1;
@@ -44,19 +42,6 @@ fn walk(
         at = nexts[i] as usize;
     }
     Sought::Found(best)
-}
-
-// The records that a walk did not come to; where none of them has the key, the best of those that it looked at.
-fn scan_rest(t: &[u8], keys: Section, few: usize, best: usize, key: &[u8]) -> usize
-    requires { ⌜ Holds keys (now t) few ⌝ }
-    requires { ⌜ length (now key) ≡ keys .width ⌝ }
-    ensures { λ r. ⌜ r ≡ orElse (earliest keys (now (t .entry)) few (now (key .entry))) best ⌝ }
-{
-    let found = scanning::scan(t, keys, few, key);
-    if found == 0 {
-        return best;
-    }
-    found
 }
 
 // One more than the earliest of the first n records with the key, or 0; by the key's bucket.
@@ -77,7 +62,7 @@ pub fn find_in(
     let sought = walk(t, keys, n, heads, nexts, b, key);
     match sought {
         Sought::Found(k) => k,
-        Sought::Long(few, best) => scan_rest(t, keys, few, best, key),
+        Sought::Long => scanning::scan(t, keys, n, key),
     }
 }
 

@@ -1,6 +1,5 @@
 // The earliest record with a key, by an index beside the records: for each bucket the latest of its records, and for each record the one before it in its bucket.
-// A lookup walks a short way down its chain, and goes over to a scan of the records before it where that does not end it: it compares no record twice, so that keys
-// which all fall into one bucket cost no more comparisons than a scan.
+// A lookup walks a short way down its chain, and goes over to a scan where that does not end it: keys that all fall into one bucket cost that way and the scan.
 mod building;
 mod chain;
 mod differing;
@@ -20,9 +19,8 @@ pub use tag::bucket;
 // The buckets of an index of 512 keys, four for a key: by a number known here a bucket is found without a division.
 pub const USUAL: usize = 2048;
 
-// What a walk found: one more than the earliest record with the key, or 0; or, of a chain too long to walk, how many records are left to look through, and what was
-// found behind them.
+// What a walk found: one more than the earliest record with the key, or 0; or a chain too long to walk.
 pub(crate) enum Sought {
     Found(usize),
-    Long(usize, usize),
+    Long,
 }
