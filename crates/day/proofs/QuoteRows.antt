@@ -107,7 +107,7 @@ behind {ws} w u n room s =
 
 -- ---- what a sound row keeps
 
-row-parts : (w : QuoteRow) → soundRow w ≡ true
+pub row-parts : (w : QuoteRow) → soundRow w ≡ true
     → (lawfulQuote (w .quote) ≡ true) × (1 ≤ w .executed) × (w .executed ≤ mostExecuted) × (w .broken ≤ w .executed)
 row-parts w e =
     let a = both (lawfulQuote (w .quote) && leb 1 (w .executed) && leb (w .executed) mostExecuted) (leb (w .broken) (w .executed)) e in

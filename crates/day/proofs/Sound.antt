@@ -80,7 +80,7 @@ module _ {limit : ℕ} {os : List Order} {ws : List QuoteRow} {r : Record} (l : 
 -- ---- 02, 1: an accepted line that belongs to a quote row
 
 -- it changes no order
-unbooked : (r : Record) (os : List Order) (e : Event) → r .event ≡ e → toQuote r (find (subject r) os) ≡ true → bookEvent e r os ≡ os
+pub unbooked : (r : Record) (os : List Order) (e : Event) → r .event ≡ e → toQuote r (find (subject r) os) ≡ true → bookEvent e r os ≡ os
 unbooked r os Accepted q b = absurd (false≢true (rw q at b))
 unbooked r os (Executed t) q b = amend-absent (keyOf r) _ os (not-true _ (both (not (isFound (find (keyOf r) os))) (namesQuote (r .token)) (rw q at b) .0))
 unbooked r os Cancelled q b = absurd (false≢true (rw q at b))

@@ -8,15 +8,18 @@ use lib.ListN.{length}
 use lib.Seq.{sets, length-sets}
 use Rattle.cell.specs.Cells.{leBytes}
 use Rattle.order.specs.declared.Order.{Order}
+use Rattle.quote.specs.declared.QuoteRow.{QuoteRow}
 use Rattle.section.specs.Sections.{Holds}
 use Rattle.section.specs.declared.Section.{Section}
 use Rattle.index.specs.Indexes.{Indexed, Enters, Builds}
+use Rattle.index.proofs.Keeping.{index-past}
 use Rattle.slot.specs.Slots.{keyIn, seriesIn, slotBytes, orderIn}
 use Rattle.slot.specs.Places.{slotKeys, slotAt, slot, SlotInside}
+use Rattle.quote_slot.specs.QuoteSlots.{rowAt, rowIn, rowBytes}
 use Rattle.slot.proofs.Keeping.{header-indexed, changed-indexed, appended-indexed}
-use Rattle.table.specs.Changes.{changedAt, appended}
-use Rattle.table.specs.Tables.{countIn, limitOf, sound}
-use Rattle.table.proofs.Holding.{count-appended, count-over, count-stored, length-appended}
+use Rattle.table.specs.Changes.{changedAt, appended, rowOf, rowChangedAt, rowAppended}
+use Rattle.table.specs.Tables.{countIn, rowCountIn, limitOf, baseIn, sound}
+use Rattle.table.proofs.Holding.{count-appended, count-kept, length-appended}
 use Rattle.table.proofs.Limits.{limit-small, slot-inside}
 use Rattle.table.proofs.Sound.{sound-apart, slots-there}
 use Rattle.lookup.specs.Beside.{Beside}
@@ -32,7 +35,7 @@ beside-kept e n f b = record { room = λ h. rw e (b .room h); indexed = λ h. rw
 -- the day's end
 pub over-beside : {s heads nexts : List ℕ} → Beside s heads nexts → Beside (sets s 4 (1 ∷ [])) heads nexts
 over-beside {s} b =
-    beside-kept (length-sets s 4 (1 ∷ [])) (count-over s) (λ x. header-indexed x (1 ∷ []) 4 (omega arith)) b
+    beside-kept (length-sets s 4 (1 ∷ [])) (count-kept s (1 ∷ []) 4 (omega arith)) (λ x. header-indexed x (1 ∷ []) 4 (omega arith)) b
 
 -- an order changed, but not its key
 pub changed-beside : {s heads nexts : List ℕ} → Beside s heads nexts → (i : ℕ) (f : Order → Order) → SlotInside i s
@@ -40,7 +43,23 @@ pub changed-beside : {s heads nexts : List ℕ} → Beside s heads nexts → (i 
     → Beside (changedAt i f s) heads nexts
 changed-beside {s} b i f h k r =
     let o = f (orderIn (slot s i)) in
-    beside-kept (length-sets s (slotAt i) (slotBytes o)) (count-stored s (slotBytes o) i) (λ x. changed-indexed x i o h k r) b
+    beside-kept (length-sets s (slotAt i) (slotBytes o)) (count-kept s (slotBytes o) (slotAt i) (omega arith)) (λ x. changed-indexed x i o h k r) b
+
+-- 02, 1: a quote row changed, or one more
+module _ {s heads nexts : List ℕ} (b : Beside s heads nexts) (few : countIn s ≤ limitOf (length s)) where
+  row-beside : (at : ℕ) (w : List ℕ) → baseIn s ≤ at → Beside (sets s at w) heads nexts
+  row-beside at w h = beside-kept (length-sets s at w) (count-kept s w at (omega arith)) (λ x. index-past x w at (omega arith)) b
+
+  pub row-changed-beside : (i : ℕ) (f : QuoteRow → QuoteRow) → Beside (rowChangedAt i f s) heads nexts
+  row-changed-beside i f = row-beside (rowAt (baseIn s) i) (rowBytes (f (rowIn (rowOf s i)))) (omega arith)
+
+  pub row-appended-beside : (w : QuoteRow) → Beside (rowAppended w s) heads nexts
+  row-appended-beside w =
+      let at = rowAt (baseIn s) (rowCountIn s) in
+      let stored = sets s at (rowBytes w) in
+      let counted = (rowCountIn s + 1) ∷ [] in
+      beside-kept (length-sets stored 5 counted) (count-kept stored counted 5 (omega arith)) (λ x. header-indexed x counted 5 (omega arith))
+      (row-beside at (rowBytes w) (omega arith))
 
 -- ---- one order more
 

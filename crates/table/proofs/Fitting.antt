@@ -1,4 +1,4 @@
--- Undamaged orders have room in their slots.
+-- Undamaged orders have room in their slots, and undamaged quote rows in theirs (02, 1).
 use Prim.Native.Nat.{ℕ, zero, suc, _+_, _<_}
 use native.Mathlib.Omega.{arith}
 use mathlib.Core.Path.{_≡_}
@@ -9,6 +9,9 @@ use lib.Dec.{leb}
 use lib.ListN.{length, getD, length-append, List·getD-append}
 use lib.Seq.{getD-append-seam}
 use Rattle.order.specs.declared.Order.{Order}
+use Rattle.quote.specs.Quotes.{soundRow}
+use Rattle.quote.specs.Rows.{allRowsSound}
+use Rattle.quote.specs.declared.QuoteRow.{QuoteRow}
 use Rattle.day.specs.Damage.{allSound, eldersOf, earlier, undamaged}
 use Rattle.order.specs.Stored.{soundOrder}
 use Rattle.day.specs.Tables.{Table}
@@ -16,6 +19,8 @@ use Rattle.run.proofs.Tests.{both}
 use Rattle.day.proofs.Undamaged.{apart}
 use Rattle.slot.specs.Slots.{Fits}
 use Rattle.slot.proofs.Room.{sound-fits}
+use Rattle.quote_slot.specs.QuoteSlots.{FitsRow}
+use Rattle.quote_slot.proofs.Room.{row-fits}
 use Rattle.table.specs.Tables.{limitOf}
 use Rattle.table.proofs.Limits.{limit-small}
 
@@ -41,3 +46,15 @@ last-fits os o f = rw (getD-append-seam os o [] o) at (f o (length os) (rw lengt
 
 pub others-fit : (os : List Order) (o : Order) → AllFit (os ++ (o ∷ [])) → AllFit os
 others-fit os o f none i l = rw (List·getD-append os (o ∷ []) none i l) at (f none i (rw length-append (omega arith)))
+
+-- ---- 02, 1: quote rows
+
+pub row-sound : (ws : List QuoteRow) (i : ℕ) (none : QuoteRow) → allRowsSound ws ≡ true → i < length ws → soundRow (getD ws i none) ≡ true
+row-sound [] i none a l = absurd (omega arith)
+row-sound (w ∷ ws) zero none a l = both (soundRow w) (allRowsSound ws) a .0
+row-sound (w ∷ ws) (suc i) none a l = row-sound ws i none (both (soundRow w) (allRowsSound ws) a .1) (omega arith)
+
+pub last-row-fits : (ws : List QuoteRow) (w : QuoteRow) → allRowsSound (ws ++ (w ∷ [])) ≡ true → FitsRow w
+last-row-fits ws w a =
+    let sound = row-sound (ws ++ (w ∷ [])) (length ws) w a (rw length-append (omega arith)) in
+    row-fits w (rw (getD-append-seam ws w [] w) at sound)

@@ -55,13 +55,10 @@ tail-written o f =
     let wide : length front ≡ 75 = simp (length-append, f .source .0, f .token .0, f .root .0) in
     rw (drop-at front (replicate 5 0) 75 wide)
 
--- ---- the count, through a store into a slot and at the day's end
+-- ---- the count, through a store behind it
 
-pub count-stored : (s b : List ℕ) (i : ℕ) → countIn (sets s (slotAt i) b) ≡ countIn s
-count-stored s b i = ap le (header-kept s b i 0 4 (omega arith))
-
-pub count-over : (s : List ℕ) → countIn (sets s 4 (1 ∷ [])) ≡ countIn s
-count-over s = ap le (part-before s (1 ∷ []) 4 0 4 (omega arith))
+pub count-kept : (s b : List ℕ) (at : ℕ) → 4 ≤ at → countIn (sets s at b) ≡ countIn s
+count-kept s b at h = ap le (part-before s b at 0 4 (omega arith))
 
 -- ---- the quote rows, through a store that lies before them
 
@@ -85,7 +82,7 @@ module _ (s : List ℕ) (i : ℕ) (o : Order) where
   same-length = length-sets s (slotAt i) (slotBytes o)
 
   same-count : countIn now ≡ countIn s
-  same-count = count-stored s (slotBytes o) i
+  same-count = count-kept s (slotBytes o) (slotAt i) (omega arith)
 
   same-mark : getD now 4 0 ≡ getD s 4 0
   same-mark = header-byte s (slotBytes o) i 4 (omega arith)
@@ -246,7 +243,7 @@ over-holds {s} {t} h =
     long = length-sets s 4 (1 ∷ [])
 
     count : countIn (sets s 4 (1 ∷ [])) ≡ countIn s
-    count = count-over s
+    count = count-kept s (1 ∷ []) 4 (omega arith)
 
     row-count : rowCountIn (sets s 4 (1 ∷ [])) ≡ rowCountIn s
     row-count = byte-after s (1 ∷ []) 4 5 (omega arith)

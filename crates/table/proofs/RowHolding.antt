@@ -8,7 +8,6 @@ use lib.Dec.{eqb}
 use lib.ListN.{length, getD, set}
 use lib.Seq.{sets, length-sets, getD-set-same, getD-set-other, getD-take}
 use Rattle.run.specs.Runs.{all, isZero}
-use Rattle.cell.specs.Cells.{le}
 use Rattle.run.proofs.Parts.{take-sets, part-before, part-after}
 use Rattle.quote.specs.Quotes.{mostRows}
 use Rattle.quote.specs.Rows.{rowPlace}
@@ -23,7 +22,7 @@ use Rattle.quote_slot.specs.QuoteSlots.{rowAt, rowsIn, rowBytes, rowIn, FitsRow
 use Rattle.quote_slot.proofs.Laws.{length-rows, row-no, rows-set, rows-append, rows-kept, orders-before}
 use Rattle.table.specs.Changes.{rowOf, rowChanged, rowAppended}
 use Rattle.table.specs.Tables.{limitOf, countIn, rowCountIn, baseIn, spareIn, tableIn}
-use Rattle.table.proofs.Holding.{TailZero, Holds, byte-after, tail-kept}
+use Rattle.table.proofs.Holding.{TailZero, Holds, byte-after, count-kept, tail-kept}
 use Rattle.table.proofs.Limits.{slots-inside, rows-inside}
 use Rattle.table.proofs.RowLookups.{at-seen, amend-row-at}
 
@@ -45,7 +44,7 @@ module _ (s b : List ℕ) (at : ℕ) (h : baseIn s ≤ at) where
       sym (getD-take 8 now i 0 l) ∙ ap (λ l. getD l i 0) (take-sets s b at 8 (omega arith)) ∙ getD-take 8 s i 0 l
 
   same-count : countIn now ≡ countIn s
-  same-count = ap le (part-before s b at 0 4 (omega arith))
+  same-count = count-kept s b at (omega arith)
 
   same-spare : spareIn now ≡ spareIn s
   same-spare = part-before s b at 6 2 (omega arith)
@@ -148,7 +147,7 @@ module _ (s : List ℕ) (w : QuoteRow) where
       long = length-row-appended w s
 
       count : countIn (rowAppended w s) ≡ countIn s
-      count = ap le (part-before stored counted 5 0 4 (omega arith)) ∙ same-count s (rowBytes w) at behind
+      count = count-kept stored counted 5 (omega arith) ∙ same-count s (rowBytes w) at behind
 
       mark : getD (rowAppended w s) 4 0 ≡ getD s 4 0
       mark = getD-set-other stored 5 4 (rowCountIn s + 1) 0 (omega arith) ∙ same-byte s (rowBytes w) at behind 4 (omega arith)
