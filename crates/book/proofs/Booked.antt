@@ -1,7 +1,7 @@
 -- The ways out of booking a piece, each as the promise says it.
 use Prim.Native.Nat.{ℕ, _+_, _<_}
 use native.Mathlib.Omega.{arith}
-use mathlib.Core.Path.{_≡_, refl, ap₂, _∙_}
+use mathlib.Core.Path.{_≡_, refl, ap, ap₂, _∙_}
 use mathlib.Core.Bool.{Bool, true, false, cond}
 use mathlib.Core.List.{List, [], _∷_}
 use lib.Dec.{eqb}
@@ -20,21 +20,26 @@ use Rattle.line.specs.declared.Outcome.{Outcome}
 use Rattle.order.specs.Names.{keyOf}
 use Rattle.order.specs.declared.Figures.{Figures}
 use Rattle.order.specs.declared.Order.{Order}
+use Rattle.quote.specs.Quotes.{quoteOf, newRow}
+use Rattle.quote.specs.declared.Quote.{Quote}
+use Rattle.quote.specs.declared.QuoteRow.{QuoteRow}
 use Rattle.day.specs.Machine.{place, refusalOf, withFigures, withPrice, newOrder}
 use Rattle.slot.specs.Slots.{keyIn, orderIn, slotBytes}
 use Rattle.slot.specs.Places.{slot, slotAt, SlotInside}
-use Rattle.table.specs.Changes.{changedAt, appended}
-use Rattle.table.specs.Tables.{countIn, limitOf, sound, tableIn}
+use Rattle.quote_slot.specs.QuoteSlots.{rowAt, rowIn, rowBytes}
+use Rattle.table.specs.Changes.{changedAt, appended, rowOf, rowAppended}
+use Rattle.table.specs.Tables.{countIn, limitOf, baseIn, sound, tableIn}
 use Rattle.lookup.specs.Beside.{Beside}
-use Rattle.lookup.proofs.Beside.{over-beside, changed-beside}
-use Rattle.table.proofs.Holding.{count-stored}
+use Rattle.lookup.proofs.Beside.{over-beside, changed-beside, row-changed-beside, row-appended-beside}
+use Rattle.table.proofs.Holding.{count-kept}
+use Rattle.table.proofs.Sound.{sound-apart}
 use Rattle.book.specs.Bytes.{bookBytes, bookAnswer}
-use Rattle.book.specs.Plans.{refigured, Plans, RoomFor, Carried, BooksSaid, answerOf, afterPlan}
+use Rattle.book.specs.Plans.{refigured, resummed, Plans, RoomFor, Carried, BooksSaid, answerOf, afterPlan}
 use Rattle.book.specs.Promises.{Books, bookingOf}
 use Rattle.book.specs.declared.Booking.{Booking}
 use Rattle.book.specs.declared.Booking.the-variants.{Booked, Refused}
 use Rattle.book.specs.declared.Plan.{Plan}
-use Rattle.book.specs.declared.Plan.the-variants.{Replace}
+use Rattle.book.specs.declared.Plan.the-variants.{Replace, NewRow}
 
 -- ---- the line of a record
 
@@ -53,7 +58,7 @@ module _ (s u : List ℕ) (i : ℕ) where
   pub free-kept : (f : Figures) → u ≡ refigured i f s → countIn s < limitOf (length s) → countIn u < limitOf (length u)
   free-kept f e h =
       let b = slotBytes (withFigures (λ (old : Figures). f) (orderIn (slot s i))) in
-      rw (e, count-stored s b i, length-sets s (slotAt i) b) h
+      rw (e, count-kept s b (slotAt i) (omega arith), length-sets s (slotAt i) b) h
 
   module _ {heads nexts : List ℕ} (h : SlotInside i s) (x : Beside s heads nexts) where
     pub refigured-beside : (f : Figures) → u ≡ refigured i f s → Beside u heads nexts
@@ -61,6 +66,26 @@ module _ (s u : List ℕ) (i : ℕ) where
 
     pub repriced-beside : (p : ℕ) → u ≡ changedAt i (withPrice p) s → Beside u heads nexts
     repriced-beside p e = rw e (changed-beside x i (withPrice p) h refl refl)
+
+-- 02, 1: a quote row stored with other sums, its quote as it was read
+pub resummed-by : (s u : List ℕ) (i executed broken : ℕ) (w : QuoteRow) → w ≡ rowIn (rowOf s i)
+    → u ≡ sets s (rowAt (baseIn s) i) (rowBytes (record { quote = w .quote; executed = executed; broken = broken })) → u ≡ resummed i executed broken s
+resummed-by s u i executed broken w e f =
+    f ∙ ap (λ (v : QuoteRow). sets s (rowAt (baseIn s) i) (rowBytes (record { quote = v .quote; executed = executed; broken = broken }))) e
+
+-- and its stores leave the index beside a sound table
+module _ {s heads nexts : List ℕ} (good : sound s ≡ true) (x : Beside s heads nexts) (u : List ℕ) where
+  pub resummed-beside : (i executed broken : ℕ) → u ≡ resummed i executed broken s → Beside u heads nexts
+  resummed-beside i executed broken e =
+      rw e (row-changed-beside x (sound-apart s good .bytes .few) i (λ (old : QuoteRow). record { quote = old .quote; executed = executed; broken = broken }))
+
+  pub made-beside : (w : QuoteRow) → u ≡ rowAppended w s → Beside u heads nexts
+  made-beside w e = rw e (row-appended-beside x (sound-apart s good .bytes .few) w)
+
+-- the first E of a quote makes its row
+pub row-made : (s u : List ℕ) (r : Record) (q : Quote) (w : QuoteRow) → q ≡ quoteOf r → w ≡ newRow q (r .contracts) → u ≡ rowAppended w s
+    → u ≡ afterPlan NewRow r s
+row-made s u r q w e f g = g ∙ ap (λ v. rowAppended v s) (f ∙ ap (λ k. newRow k (r .contracts)) e)
 
 -- the elder's figures, then the order that names it
 pub one-replaced : (s u v : List ℕ) (i : ℕ) (f : Figures) (r : Record) (o : Order) → u ≡ refigured i f s → o ≡ newOrder r (r .contracts) (i + 1) → v ≡ appended o u

@@ -1,26 +1,31 @@
 -- What the conditions of a line say of the order that it speaks of.
-use Prim.Native.Nat.{ℕ, zero, suc, _+_, _-_, _≤_}
+use Prim.Native.Nat.{ℕ, zero, suc, _+_, _-_, _≤_, _<_}
 use native.Mathlib.Numerals.{add-one}
 use native.Mathlib.Omega.{arith}
 use mathlib.Core.Path.{_≡_, refl, sym, ap, _∙_}
-use mathlib.Core.Bool.{Bool, true, false, not, _&&_, or-false, and-true, and-false}
+use mathlib.Core.Bool.{Bool, true, false, not, _&&_, or-false, and-true, and-false, false≢true}
 use mathlib.Core.List.{List}
-use borrow.Author.Tests.{ltb-false, ne-eqb}
+use borrow.Author.Tests.{ltb-false, lt-ltb, le-ltb, lt-leb, le-leb, ne-eqb}
 use lib.Dec.{eqb}
-use Rattle.refusal.specs.declared.Refusal.the-variants.{OtherSeries, NotOpen, NotExecuted, Full}
-use Rattle.layout.specs.declared.Event.the-variants.{Executed, Cancelled, Broken}
+use Rattle.refusal.specs.declared.Refusal.the-variants.{OtherSeries, NotOpen, NotExecuted, Full, RowFull}
+use Rattle.layout.specs.declared.Event.{Event}
+use Rattle.layout.specs.declared.Event.the-variants.{Accepted, Executed, Cancelled, Broken, Replaced, Repriced}
 use Rattle.layout.specs.declared.Record.{Record}
 use Rattle.layout.specs.declared.Trade.{Trade}
 use Rattle.order.specs.declared.Key.{Key}
 use Rattle.order.specs.declared.Order.{Order}
-use Rattle.day.specs.History.{isMaker}
-use Rattle.day.specs.Machine.{found, find, isFound, place, differs, notOpen, notExecuted}
+use Rattle.quote.specs.Quotes.{mostRows, mostExecuted}
+use Rattle.quote.specs.declared.QuoteRow.{QuoteRow}
+use Rattle.day.specs.History.{isExecution, isBreak, isMaker}
+use Rattle.day.specs.Machine.{found, find, isFound, place, differs, notOpen, notExecuted, seen}
+use Rattle.day.specs.Machine.{none as unseen}
+use Rattle.day.specs.Quotes.{isFill}
 use Rattle.slot.specs.Places.{placeNo}
 use Rattle.slot.specs.declared.Place.{Place}
 use Rattle.slot.specs.declared.Place.the-variants.{At, Nobody}
 use Rattle.slot.proofs.Lookups.{at-found, nobody-found}
-use Rattle.book.specs.Plans.{planBy, planAbout}
-use Rattle.book.specs.declared.Plan.the-variants.{No}
+use Rattle.book.specs.Plans.{planBy, planAbout, planRow}
+use Rattle.book.specs.declared.Plan.the-variants.{No, NewRow, Sums}
 
 -- ---- whether a key is taken
 
@@ -74,3 +79,39 @@ module _ (i : ℕ) (o : Order) (r : Record) (full : Bool) where
 
         pub by-event : (maker && full) ≡ false → planBy (r .event) i (o .figures) r ≡ planAbout i o r full
         by-event y = rw (d, p, x, ← e, y)
+
+-- ---- 02, 1: of a line about a quote row
+
+-- E is no C
+executed-unbroken : (e : Event) → isExecution e ≡ true → isBreak e ≡ false
+executed-unbroken Accepted q = refl
+executed-unbroken (Executed t) q = refl
+executed-unbroken Cancelled q = refl
+executed-unbroken (Broken t) q = absurd (false≢true q)
+executed-unbroken Replaced q = refl
+executed-unbroken Repriced q = refl
+
+module _ (n : ℕ) (r : Record) (e : isExecution (r .event) ≡ true) (most : ℕ) (q : most ≡ mostRows) where
+  pub by-full : most ≤ n → No RowFull ≡ planRow n 0 unseen r
+  by-full h = rw (e, le-leb mostRows n (rw q at h))
+
+  pub by-room : n < most → NewRow ≡ planRow n 0 unseen r
+  by-room h = rw (e, lt-leb mostRows n (rw q at h))
+
+module _ (i : ℕ) (w : QuoteRow) (r : Record) where
+  module _ (most : w .executed ≤ mostExecuted) (e : isExecution (r .event) ≡ true) where
+    pub by-most : mostExecuted - w .executed < r .contracts → No RowFull ≡ planRow 0 i (seen w) r
+    by-most h = rw (executed-unbroken (r .event) e, e, lt-ltb mostExecuted (w .executed + r .contracts) (omega arith))
+
+    pub by-execution : r .contracts ≤ mostExecuted - w .executed → Sums i (w .executed + r .contracts) (w .broken) ≡ planRow 0 i (seen w) r
+    by-execution h = rw (executed-unbroken (r .event) e, e, le-ltb mostExecuted (w .executed + r .contracts) (omega arith))
+
+  module _ (f : isFill (r .event) ≡ true) (e : isExecution (r .event) ≡ false) where
+    broken : isBreak (r .event) ≡ true
+    broken = rw e at f
+
+    pub by-unbroken : w .executed - w .broken < r .contracts → No NotExecuted ≡ planRow 0 i (seen w) r
+    by-unbroken h = rw (broken, lt-ltb (w .executed - w .broken) (r .contracts) h)
+
+    pub by-break : r .contracts ≤ w .executed - w .broken → Sums i (w .executed) (w .broken + r .contracts) ≡ planRow 0 i (seen w) r
+    by-break h = rw (broken, le-ltb (w .executed - w .broken) (r .contracts) h, e)

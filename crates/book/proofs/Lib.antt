@@ -1,5 +1,3 @@
--- No line belongs to a quote row yet
-pub mod Unquoted
 -- What a sound table gives to a line
 pub mod There
 -- What the conditions of a line say of its order

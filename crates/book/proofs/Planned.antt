@@ -1,15 +1,15 @@
 -- The ways out of planning a line, each as the promise says it.
 use Prim.Native.Nat.{ℕ, _+_, _-_}
 use native.Mathlib.Omega.{arith}
-use mathlib.Core.Path.{_≡_, refl, sym, ap, ap₂}
-use mathlib.Core.Bool.{Bool, true, false, cond, _&&_, false≢true}
+use mathlib.Core.Path.{_≡_, refl, sym, ap, ap₂, _∙_}
+use mathlib.Core.Bool.{Bool, true, false, cond, not, _&&_, false≢true, and-true, and-false, or-true}
 use mathlib.Core.List.{List}
 use lib.Dec.{eqb, leb}
 use lib.ListN.{length}
 use Rattle.refusal.specs.Answer.{value}
 use Rattle.refusal.specs.Numbers.{numberOf, fieldOf}
 use Rattle.refusal.specs.declared.Refusal.{Refusal}
-use Rattle.refusal.specs.declared.Refusal.the-variants.{DayOver, KnownKey, UnknownKey, OtherSeries, NotOpen, NotExecuted, Full}
+use Rattle.refusal.specs.declared.Refusal.the-variants.{DayOver, KnownKey, UnknownKey, OtherSeries, NotOpen, NotExecuted, Full, RowFull}
 use Rattle.layout.specs.Line.{line}
 use Rattle.layout.specs.declared.Event.{Event}
 use Rattle.layout.specs.declared.Event.the-variants.{Accepted, Executed, Cancelled, Broken, Replaced, Repriced}
@@ -19,28 +19,40 @@ use Rattle.order.specs.Names.{keyOf, elderKeyOf}
 use Rattle.order.specs.declared.Figures.{Figures}
 use Rattle.order.specs.declared.Key.{Key}
 use Rattle.order.specs.declared.Order.{Order}
-use Rattle.day.specs.History.{isNew, isMaker, isReplace}
-use Rattle.day.specs.Machine.{nobody, found, find, isFound, place, differs, notOpen, notExecuted, toQuote, refusalOf, withFigures, withPrice, newOrder}
+use Rattle.quote.specs.Quotes.{mostRows, namesQuote, quoteOf, rowExecutedBy, rowBrokenBy}
+use Rattle.quote.specs.Rows.{rowPlace}
+use Rattle.quote.specs.declared.QuoteRow.{QuoteRow}
+use Rattle.run.proofs.Tests.{both}
+use Rattle.day.specs.History.{isNew, isExecution, isMaker, isReplace}
+use Rattle.day.specs.Machine.{Found, nobody, found, find, isFound, place, differs, notOpen, notExecuted, seen, findRow, toQuote, rowNotExecuted, rowFull, refusalOf, withFigures, withPrice, newOrder}
+use Rattle.day.specs.Machine.{none as unseen}
+use Rattle.day.specs.Quotes.{isFill}
 use Rattle.day.specs.Refusals.{subject}
 use Rattle.slot.specs.Slots.{orderIn}
 use Rattle.slot.specs.Places.{slot, SlotInside}
-use Rattle.table.specs.Changes.{changedAt, changed, appended}
-use Rattle.table.specs.Tables.{limitOf, tableIn}
-use Rattle.book.specs.Bytes.{eventBytes}
-use Rattle.book.specs.Plans.{Plans, RoomFor, planBy, planAbout, answerOf, afterPlan}
+use Rattle.quote_slot.specs.QuoteSlots.{rowIn}
+use Rattle.table.specs.Changes.{changedAt, changed, appended, rowOf, rowChangedAt, rowChanged}
+use Rattle.table.specs.Tables.{limitOf, tableIn, sound}
+use Rattle.book.specs.Bytes.{eventBytes, fillBytes}
+use Rattle.book.specs.Plans.{Plans, RoomFor, planBy, planAbout, planFill, planRow, answerOf, afterPlan}
 use Rattle.book.specs.declared.Plan.{Plan}
-use Rattle.book.specs.declared.Plan.the-variants.{No, New}
-use Rattle.book.proofs.There.{free}
-use Rattle.book.proofs.Unquoted.{unquoted}
+use Rattle.book.specs.declared.Plan.the-variants.{No, New, NewRow}
+use Rattle.book.proofs.There.{free, RowThere, row-free}
 
 module _ (s : List ℕ) (r : Record) where
   refuses : (x : Refusal) → refusalOf (limitOf (length s)) (tableIn s) (line r) ≡ numberOf x → eqb (numberOf x) 0 ≡ false → fieldOf x ≡ 0
       → Plans s r (No x)
   refuses x e z f = record { said = rw (e, z, f); out = rw (e, z); room = tt }
 
-  grants : (p : Plan) → refusalOf (limitOf (length s)) (tableIn s) (line r) ≡ 0 → answerOf p ≡ value tt
-      → afterPlan p r s ≡ eventBytes (r .event) r s → RoomFor p s → Plans s r p
-  grants p e a b c = record { said = rw e a; out = rw e b; room = c }
+  abbrev orders : List Order
+  orders = tableIn s .orders
+
+  abbrev quotes : List QuoteRow
+  quotes = tableIn s .quotes
+
+  grants : (p : Plan) (q : Bool) → toQuote r (find (subject r) orders) ≡ q → refusalOf (limitOf (length s)) (tableIn s) (line r) ≡ 0 → answerOf p ≡ value tt
+      → afterPlan p r s ≡ cond q (fillBytes (r .event) r s) (eventBytes (r .event) r s) → RoomFor p s → Plans s r p
+  grants p q d e a b c = record { said = rw e a; out = rw (e, d) b; room = c }
 
   -- ---- what the plan of an event does
 
@@ -75,26 +87,35 @@ module _ (s : List ℕ) (r : Record) where
 
   -- ---- the conditions, one after another
 
-  abbrev orders : List Order
-  orders = tableIn s .orders
+  -- 02, 1: neither an A nor a line about an order belongs to a quote row
+  new-unfilled : (o : Found) (e : Event) → isNew e ≡ true → (isFill e && not (isFound o) && namesQuote (r .token)) ≡ false
+  new-unfilled o Accepted n = refl
+  new-unfilled o (Executed t) n = absurd (false≢true n)
+  new-unfilled o Cancelled n = absurd (false≢true n)
+  new-unfilled o (Broken t) n = absurd (false≢true n)
+  new-unfilled o Replaced n = absurd (false≢true n)
+  new-unfilled o Repriced n = absurd (false≢true n)
 
-  none : toQuote r (find (subject r) orders) ≡ false
-  none = unquoted r (find (subject r) orders)
+  of-order : {o : Order} → find (subject r) orders ≡ found o → toQuote r (find (subject r) orders) ≡ false
+  of-order f = rw (f, and-false)
 
   pub day-over : tableIn s .over ≡ true → Plans s r (No DayOver)
   day-over a = refuses DayOver (rw a) refl refl
 
   module _ (a : tableIn s .over ≡ false) where
     pub known-key : (isMaker (r .event) && isFound (find (keyOf r) orders)) ≡ true → Plans s r (No KnownKey)
-    known-key b = refuses KnownKey (rw (none, a, b)) refl refl
+    known-key b = refuses KnownKey (rw (a, b)) refl refl
 
     module _ (b : (isMaker (r .event) && isFound (find (keyOf r) orders)) ≡ false) where
       module _ (n : isNew (r .event) ≡ true) where
+        unfilled : toQuote r (find (subject r) orders) ≡ false
+        unfilled = new-unfilled (find (subject r) orders) (r .event) n
+
         pub full-of-new : leb (limitOf (length s)) (length orders) ≡ true → Plans s r (No Full)
-        full-of-new f = refuses Full (rw (none, a, b, n, f)) refl refl
+        full-of-new f = refuses Full (rw (unfilled, a, b, n, f)) refl refl
 
         pub new : leb (limitOf (length s)) (length orders) ≡ false → Plans s r New
-        new f = grants New (rw (none, a, b, n, f)) refl (is-new (r .event) n) (free s f)
+        new f = grants New false unfilled (rw (unfilled, a, b, n, f)) refl (is-new (r .event) n) (free s f)
           where
             is-new : (e : Event) → isNew e ≡ true → appended (newOrder r (r .contracts) 0) s ≡ eventBytes e r s
             is-new Accepted n = refl
@@ -105,11 +126,11 @@ module _ (s : List ℕ) (r : Record) where
             is-new Repriced n = absurd (false≢true n)
 
       module _ (n : isNew (r .event) ≡ false) where
-        pub unknown-key : find (subject r) orders ≡ nobody → Plans s r (No UnknownKey)
-        unknown-key f = refuses UnknownKey (rw (none, a, b, n, f)) refl refl
-
         -- the order that the line speaks of stands at place i
         module _ (i : ℕ) (o : Order) (f : find (subject r) orders ≡ found o) (at : place (subject r) orders ≡ i + 1) (e : o ≡ orderIn (slot s i)) (h : SlotInside i s) where
+          none : toQuote r (find (subject r) orders) ≡ false
+          none = of-order f
+
           pub about : (full : Bool) → full ≡ leb (limitOf (length s)) (length orders) → Plans s r (planAbout i o r full)
           about full m = go (differs r (found o)) (notOpen r (found o)) (notExecuted r (found o)) (isMaker (r .event) && full) refl refl refl refl
             where
@@ -123,5 +144,66 @@ module _ (s : List ℕ) (r : Record) where
               go false false true y q t u v = refuses NotExecuted (rw (none, a, b, n, f, q, t, u)) refl refl
               go false false false true q t u v = refuses Full (rw (none, a, b, ← m, v, n, f, q, t, u)) refl refl
               go false false false false q t u v =
-                  grants (planBy (r .event) i (o .figures) r) (rw (none, a, b, ← m, v, n, f, q, t, u)) (plan-answer (r .event) i (o .figures))
+                  grants (planBy (r .event) i (o .figures) r) false none (rw (none, a, b, ← m, v, n, f, q, t, u)) (plan-answer (r .event) i (o .figures))
                   (rw e (plan-bytes (r .event) i at)) (plan-room (r .event) i (o .figures) h (rw (← m) v))
+
+        -- 02, 1: no order has the key
+        module _ (f : find (subject r) orders ≡ nobody) where
+          pub unknown-key : (isFill (r .event) && namesQuote (r .token)) ≡ false → Plans s r (No UnknownKey)
+          unknown-key x =
+              let none : toQuote r (find (subject r) orders) ≡ false = rw (f, and-true) x in
+              refuses UnknownKey (rw (none, a, b, n, f)) refl refl
+
+          module _ (x : (isFill (r .event) && namesQuote (r .token)) ≡ true) (good : sound s ≡ true) where
+            quoted : toQuote r (find (subject r) orders) ≡ true
+            quoted = rw (f, and-true) x
+
+            unmade : isMaker (r .event) ≡ false
+            unmade = go (r .event) (both (isFill (r .event)) (namesQuote (r .token)) x .0)
+              where
+                go : (e : Event) → isFill e ≡ true → isMaker e ≡ false
+                go Accepted q = absurd (false≢true q)
+                go (Executed t) q = refl
+                go Cancelled q = refl
+                go (Broken t) q = refl
+                go Replaced q = absurd (false≢true q)
+                go Repriced q = refl
+
+            abbrev count : ℕ
+            count = length quotes
+
+            pub by-first : findRow (quoteOf r) quotes ≡ unseen → Plans s r (planRow count 0 unseen r)
+            by-first w = go (isExecution (r .event)) (leb mostRows count) refl refl
+              where
+                go : (e l : Bool) → isExecution (r .event) ≡ e → leb mostRows count ≡ l → Plans s r (cond e (cond l (No RowFull) NewRow) (No UnknownKey))
+                go false l e h = refuses UnknownKey (rw (quoted, a, b, unmade, n, f, w, e)) refl refl
+                go true true e h = refuses RowFull (rw (quoted, a, b, unmade, n, f, w, e, h)) refl refl
+                go true false e h = grants NewRow true quoted (rw (quoted, a, b, unmade, n, f, w, e, h)) refl (rw (e, w)) (row-free s good h)
+
+            -- the row of its quote is w, at place i
+            module _ (i : ℕ) (w : QuoteRow) (t : RowThere s (quoteOf r) i w) (at : rowPlace (quoteOf r) quotes ≡ i + 1) (is : w ≡ rowIn (rowOf s i)) where
+              row-at : (g : QuoteRow → QuoteRow) {u : List ℕ} → u ≡ rowChangedAt i g s → u ≡ rowChanged (quoteOf r) g s
+              row-at g e = let j : i ≡ rowPlace (quoteOf r) quotes - 1 = omega arith in e ∙ ap (λ k. rowChangedAt k g s) j
+
+              fill-answer : (e : Bool) → answerOf (planFill e i w (r .contracts)) ≡ value tt
+              fill-answer true = refl
+              fill-answer false = refl
+
+              fill-room : (e : Bool) → RoomFor (planFill e i w (r .contracts)) s
+              fill-room true = t .inside
+              fill-room false = t .inside
+
+              fill-bytes : (e : Bool) → isExecution (r .event) ≡ e → afterPlan (planFill e i w (r .contracts)) r s ≡ fillBytes (r .event) r s
+              fill-bytes true e = rw (e, t .is) (row-at (λ v. rowExecutedBy v (r .contracts)) (ap (λ v. afterPlan (planFill true i v (r .contracts)) r s) is))
+              fill-bytes false e = rw e (row-at (λ v. rowBrokenBy v (r .contracts)) (ap (λ v. afterPlan (planFill false i v (r .contracts)) r s) is))
+
+              pub by-row : Plans s r (planRow count i (seen w) r)
+              by-row = go (rowNotExecuted r count (seen w)) (rowFull r count (seen w)) refl refl
+                where
+                  go : (u v : Bool) → rowNotExecuted r count (seen w) ≡ u → rowFull r count (seen w) ≡ v
+                      → Plans s r (cond u (No NotExecuted) (cond v (No RowFull) (planFill (isExecution (r .event)) i w (r .contracts))))
+                  go true v p q = refuses NotExecuted (rw (quoted, a, b, unmade, n, f, t .is, or-true, p)) refl refl
+                  go false true p q = refuses RowFull (rw (quoted, a, b, unmade, n, f, t .is, or-true, p, q)) refl refl
+                  go false false p q =
+                      grants (planFill (isExecution (r .event)) i w (r .contracts)) true quoted (rw (quoted, a, b, unmade, n, f, t .is, or-true, p, q))
+                      (fill-answer (isExecution (r .event))) (fill-bytes (isExecution (r .event)) refl) (fill-room (isExecution (r .event)))

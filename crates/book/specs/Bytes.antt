@@ -12,9 +12,13 @@ use Rattle.layout.specs.declared.Event.the-variants.{Accepted, Executed, Cancel
 use Rattle.layout.specs.declared.Record.{Record}
 use Rattle.order.specs.Figure.{executedBy, brokenBy, cancelledBy, passedOn}
 use Rattle.order.specs.Names.{keyOf, elderKeyOf}
-use Rattle.day.specs.Machine.{place, refusalOf, withFigures, withPrice, newOrder}
+use Rattle.quote.specs.Quotes.{quoteOf, newRow, rowExecutedBy, rowBrokenBy}
+use Rattle.quote.specs.declared.Quote.{Quote}
+use Rattle.day.specs.History.{isExecution}
+use Rattle.day.specs.Machine.{find, place, isSeen, findRow, toQuote, refusalOf, withFigures, withPrice, newOrder}
 use Rattle.day.specs.Machine.{book as bookDay}
-use Rattle.table.specs.Changes.{changed, appended}
+use Rattle.day.specs.Refusals.{subject}
+use Rattle.table.specs.Changes.{changed, appended, rowChanged, rowAppended}
 use Rattle.table.specs.Tables.{limitOf, tableIn, sound}
 
 abbrev pub eventBytes : Event → Record → List ℕ → List ℕ
@@ -25,9 +29,17 @@ eventBytes (Broken t) r s = changed (keyOf r) (withFigures (λ f. brokenBy f (r 
 eventBytes Replaced r s = appended (newOrder r (r .contracts) (place (elderKeyOf r) (tableIn s .orders))) (changed (elderKeyOf r) (withFigures passedOn) s)
 eventBytes Repriced r s = changed (keyOf r) (withPrice (r .price)) s
 
+-- 02, 1: "the first E makes it"
+abbrev pub executeBytes : Quote → ℕ → List ℕ → List ℕ
+executeBytes q n s = cond (isSeen (findRow q (tableIn s .quotes))) (rowChanged q (λ w. rowExecutedBy w n) s) (rowAppended (newRow q n) s)
+
+-- 02, 1: the row of a line that belongs to one
+abbrev pub fillBytes : Event → Record → List ℕ → List ℕ
+fillBytes e r s = cond (isExecution e) (executeBytes (quoteOf r) (r .contracts) s) (rowChanged (quoteOf r) (λ w. rowBrokenBy w (r .contracts)) s)
+
 abbrev pub acceptBytes : Said → List ℕ → List ℕ
 acceptBytes endOfDay s = sets s 4 (1 ∷ [])
-acceptBytes (line r) s = eventBytes (r .event) r s
+acceptBytes (line r) s = cond (toQuote r (find (subject r) (tableIn s .orders))) (fillBytes (r .event) r s) (eventBytes (r .event) r s)
 
 -- an undamaged table after a piece that says x
 abbrev pub saidBytes : Said → List ℕ → List ℕ
@@ -37,7 +49,7 @@ abbrev pub readBytes : Answer Said → List ℕ → List ℕ
 readBytes (value x) s = saidBytes x s
 readBytes (refused n f) s = s
 
--- 01, Order of checks: booking a piece: 5, 1, 2, 3, then 6 to 12; a refusal changes not one byte
+-- 01, Order of checks: booking a piece: 5, 1, 2, 3, then 6 to 13; a refusal changes not one byte
 unfoldable pub bookBytes : List ℕ → List ℕ → List ℕ
 bookBytes s p = cond (sound s) (readBytes (read p) s) s
 

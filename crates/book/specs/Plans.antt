@@ -1,11 +1,12 @@
 -- What a plan for a line is, and what carrying it out does to the bytes of a table.
 use Prim.Native.Nat.{ℕ, _+_, _<_}
 use mathlib.Core.Path.{_≡_}
-use mathlib.Core.Bool.{Bool, cond, _&&_}
+use mathlib.Core.Bool.{Bool, true, false, cond, _&&_}
 use mathlib.Core.List.{List}
+use lib.Dec.{leb}
 use lib.ListN.{length}
 use Rattle.refusal.specs.Answer.{Answer, value, refusedBy}
-use Rattle.refusal.specs.declared.Refusal.the-variants.{OtherSeries, NotOpen, NotExecuted, Full}
+use Rattle.refusal.specs.declared.Refusal.the-variants.{UnknownKey, OtherSeries, NotOpen, NotExecuted, Full, RowFull}
 use Rattle.layout.specs.Line.{Said, line}
 use Rattle.layout.specs.declared.Event.{Event}
 use Rattle.layout.specs.declared.Event.the-variants.{Accepted, Executed, Cancelled, Broken, Replaced, Repriced}
@@ -13,16 +14,19 @@ use Rattle.layout.specs.declared.Record.{Record}
 use Rattle.order.specs.Figure.{executedBy, brokenBy, cancelledBy, passedOn}
 use Rattle.order.specs.declared.Figures.{Figures}
 use Rattle.order.specs.declared.Order.{Order}
-use Rattle.day.specs.History.{isMaker}
-use Rattle.day.specs.Machine.{bookSaid, found, differs, notOpen, notExecuted, withFigures, withPrice, newOrder}
+use Rattle.quote.specs.Quotes.{mostRows, quoteOf, newRow}
+use Rattle.quote.specs.declared.QuoteRow.{QuoteRow}
+use Rattle.day.specs.History.{isExecution, isMaker}
+use Rattle.day.specs.Machine.{bookSaid, found, differs, notOpen, notExecuted, Seen, none, seen, rowNotExecuted, rowFull, withFigures, withPrice, newOrder}
 use Rattle.slot.specs.Places.{SlotInside}
-use Rattle.table.specs.Changes.{changedAt, appended}
-use Rattle.table.specs.Tables.{countIn, limitOf, tableIn}
+use Rattle.quote_slot.specs.QuoteSlots.{RowInside}
+use Rattle.table.specs.Changes.{changedAt, appended, rowChangedAt, rowAppended}
+use Rattle.table.specs.Tables.{countIn, rowCountIn, baseIn, limitOf, tableIn}
 use Rattle.book.specs.Bytes.{saidBytes}
 use Rattle.book.specs.Promises.{bookingOf}
 use Rattle.book.specs.declared.Booking.{Booking}
 use Rattle.book.specs.declared.Plan.{Plan}
-use Rattle.book.specs.declared.Plan.the-variants.{No, New, Change, Price, Replace}
+use Rattle.book.specs.declared.Plan.the-variants.{No, New, Change, Price, Replace, NewRow, Sums}
 
 -- the plan for a line of an event that no condition refused, f being the figures of the order at place i that it speaks of
 abbrev pub planBy : Event → ℕ → Figures → Record → Plan
@@ -41,16 +45,34 @@ planAbout i o r full =
     (cond (notExecuted r (found o)) (No NotExecuted)
     (cond (isMaker (r .event) && full) (No Full) (planBy (r .event) i (o .figures) r))))
 
+-- 02, 1: E and C of a row at place i
+abbrev pub planFill : Bool → ℕ → QuoteRow → ℕ → Plan
+planFill true i w n = Sums i (w .executed + n) (w .broken)
+planFill false i w n = Sums i (w .executed) (w .broken + n)
+
+-- the plan for an E or C that belongs to a quote row, by 8, 11 and 13: i is the place of the row that is seen, n how many there are
+abbrev pub planRow : ℕ → ℕ → Seen → Record → Plan
+planRow n i none r = cond (isExecution (r .event)) (cond (leb mostRows n) (No RowFull) NewRow) (No UnknownKey)
+planRow n i (seen w) r =
+    cond (rowNotExecuted r n (seen w)) (No NotExecuted)
+    (cond (rowFull r n (seen w)) (No RowFull) (planFill (isExecution (r .event)) i w (r .contracts)))
+
 abbrev pub answerOf : Plan → Answer (Unit {0})
 answerOf (No x) = refusedBy x
 answerOf New = value tt
 answerOf (Change i f) = value tt
 answerOf (Price i p) = value tt
 answerOf (Replace i f) = value tt
+answerOf NewRow = value tt
+answerOf (Sums i e b) = value tt
 
 -- other figures at a place
 abbrev pub refigured : ℕ → Figures → List ℕ → List ℕ
 refigured i f s = changedAt i (withFigures (λ (old : Figures). f)) s
+
+-- other sums in the quote row at a place
+abbrev pub resummed : ℕ → ℕ → ℕ → List ℕ → List ℕ
+resummed i e b s = rowChangedAt i (λ (old : QuoteRow). record { quote = old .quote; executed = e; broken = b }) s
 
 -- the bytes once a plan is carried out
 abbrev pub afterPlan : Plan → Record → List ℕ → List ℕ
@@ -59,14 +81,18 @@ afterPlan New r s = appended (newOrder r (r .contracts) 0) s
 afterPlan (Change i f) r s = refigured i f s
 afterPlan (Price i p) r s = changedAt i (withPrice p) s
 afterPlan (Replace i f) r s = appended (newOrder r (r .contracts) (i + 1)) (refigured i f s)
+afterPlan NewRow r s = rowAppended (newRow (quoteOf r) (r .contracts)) s
+afterPlan (Sums i e b) r s = resummed i e b s
 
--- the slots that a plan stores to are inside the table, and it has room for one order more where the plan makes one
+-- the slots and rows that a plan stores to are inside the table, and it has room for one order or row more where the plan makes one
 abbrev pub RoomFor : Plan → List ℕ → Type 0
 RoomFor (No x) s = Unit {0}
 RoomFor New s = countIn s < limitOf (length s)
 RoomFor (Change i f) s = SlotInside i s
 RoomFor (Price i p) s = SlotInside i s
 RoomFor (Replace i f) s = SlotInside i s × (countIn s < limitOf (length s))
+RoomFor NewRow s = RowInside (baseIn s) (rowCountIn s) s × (rowCountIn s < 255)
+RoomFor (Sums i e b) s = RowInside (baseIn s) i s
 
 -- a plan for a line
 pub record Plans (s : List ℕ) (r : Record) (p : Plan) : Type 0 where

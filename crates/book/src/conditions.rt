@@ -2,7 +2,8 @@
 ghost use mathlib.Core.Path.{_≡_};
 ghost use Rattle.order.specs.Figure.{Sound};
 ghost use Rattle.order.specs.Names.{sameSeries};
-ghost use Rattle.day.specs.History.{isNew, isMaker, isReplace};
+ghost use Rattle.day.specs.History.{isExecution, isMaker, isNew, isReplace};
+ghost use Rattle.day.specs.Quotes.{isFill};
 ghost use Rattle.day.specs.Machine.{found, differs as Machine·differs, notOpen, notExecuted};
 use layout::Event;
 use layout::Record;
@@ -20,6 +21,20 @@ pub fn is_maker(event: Event) -> bool
 {
     let t = record::type_of(event);
     (t == b'A') | layout::is_replace(t)
+}
+
+pub fn is_execution(event: Event) -> bool
+    ensures { λ r. ⌜ r ≡ isExecution event ⌝ }
+{
+    record::type_of(event) == b'E'
+}
+
+// E and C.
+pub fn is_fill(event: Event) -> bool
+    ensures { λ r. ⌜ r ≡ isFill event ⌝ }
+{
+    let t = record::type_of(event);
+    (t == b'E') | (t == b'C')
 }
 
 pub fn is_replace(event: Event) -> bool

@@ -1,5 +1,6 @@
 // Booking a piece into a lent table: plan, then store.
 mod conditions;
+mod fills;
 mod planning;
 mod store;
 
@@ -24,4 +25,8 @@ pub(crate) enum Plan {
     Price(usize, u64),
     // The figures of the elder at a place, and one order more.
     Replace(usize, Figures),
+    // One quote row more (02, 1).
+    NewRow,
+    // Executed and broken of the quote row at a place.
+    Sums(usize, u64, u64),
 }

@@ -1,9 +1,10 @@
-// The plan for a line: the first of refusals 6 to 12 that applies, or what is to be stored. No byte is changed here.
+// The plan for a line: the first of refusals 6 to 13 that applies, or what is to be stored. No byte is changed here.
 ghost use mathlib.Core.Path.{_≡_};
 ghost use mathlib.Core.Bool.{true, false, not, _&&_};
 ghost use lib.Dec.{eqb, leb};
 ghost use lib.ListN.{length};
 ghost use Rattle.run.specs.Runs.{part};
+ghost use Rattle.layout.specs.Demand2.{LawfulRecord};
 ghost use Rattle.order.specs.Figure.{Sound};
 ghost use Rattle.order.specs.Names.{keyOf};
 ghost use Rattle.day.specs.History.{isNew, isMaker};
@@ -16,6 +17,7 @@ ghost use Rattle.lookup.specs.Beside.{Beside};
 ghost use Rattle.book.specs.Plans.{Plans, planAbout, planBy};
 use crate::Plan;
 use crate::conditions;
+use crate::fills;
 use layout::Event;
 use layout::Record;
 use order::Order;
@@ -37,11 +39,12 @@ pub fn own(t: &[u8], heads: &[u16], nexts: &[u16], piece: &[u8]) -> Place
     lookup::find(t, heads, nexts, lookup::bucket(heads, key), key)
 }
 
-// 6 and 7 first, as 01 has them. Of an A only 12 is left then; any other line is about an order of the table.
+// 6 and 7 first, as 01 has them. Of an A only 12 is left then; any other line is about an order of the table, or about a quote row.
 pub fn plan(t: &[u8], heads: &[u16], nexts: &[u16], own: Place, r: Record) -> Plan
     requires { ⌜ sound (now t) ≡ true ⌝ }
     requires { ⌜ Beside (now t) (now heads) (now nexts) ⌝ }
     requires { ⌜ placeNo own ≡ place (keyOf r) (tableIn (now t) .orders) ⌝ }
+    requires { ⌜ LawfulRecord r ⌝ }
     ensures { λ p. ⌜ Plans (now (t .entry)) r p ⌝ }
 {
     if header::is_over(t) {
@@ -91,7 +94,7 @@ fn subject(t: &[u8], heads: &[u16], nexts: &[u16], r: Record, own: Place) -> Pla
     lookup::find_key(t, heads, nexts, order::elder_key_of(r))
 }
 
-// A line about an order of the table.
+// A line about an order of the table, or about a quote row.
 fn plan_older(t: &[u8], heads: &[u16], nexts: &[u16], r: Record, own: Place) -> Plan
     requires { ⌜ sound (now t) ≡ true ⌝ }
     requires { ⌜ Beside (now t) (now heads) (now nexts) ⌝ }
@@ -99,10 +102,11 @@ fn plan_older(t: &[u8], heads: &[u16], nexts: &[u16], r: Record, own: Place) -> 
     requires { ⌜ tableIn (now t) .over ≡ false ⌝ }
     requires { ⌜ (isMaker (r .event) && isFound (find (keyOf r) (tableIn (now t) .orders))) ≡ false ⌝ }
     requires { ⌜ isNew (r .event) ≡ false ⌝ }
+    requires { ⌜ LawfulRecord r ⌝ }
     ensures { λ p. ⌜ Plans (now (t .entry)) r p ⌝ }
 {
     let Place::At(i) = subject(t, heads, nexts, r, own) else {
-        return Plan::No(Refusal::UnknownKey);
+        return fills::plan_fill(t, r);
     };
     plan_about(i, slot::order_at(t, i), r, is_full(t))
 }

@@ -1,14 +1,16 @@
-// Booking: a plan is carried out by whole slots, by what changes of an order, and by the header.
+// Booking: a plan is carried out by whole slots, by what changes of an order, by quote rows, and by the header.
 ghost use mathlib.Core.Path.{_≡_};
 ghost use mathlib.Core.Bool.{true};
+ghost use Rattle.layout.specs.Demand2.{LawfulRecord};
 ghost use Rattle.layout.specs.Line.{line as Line·line, endOfDay, printable};
 ghost use Rattle.order.specs.Names.{keyOf};
 ghost use Rattle.day.specs.Machine.{newOrder, place, withPrice};
 ghost use Rattle.table.specs.Changes.{changedAt};
 ghost use Rattle.slot.specs.Places.{SlotInside, placeNo};
-ghost use Rattle.table.specs.Tables.{sound, tableIn};
+ghost use Rattle.quote_slot.specs.QuoteSlots.{RowInside};
+ghost use Rattle.table.specs.Tables.{baseIn, sound, tableIn};
 ghost use Rattle.lookup.specs.Beside.{Beside};
-ghost use Rattle.book.specs.Plans.{BooksSaid, Carried, RoomFor, refigured};
+ghost use Rattle.book.specs.Plans.{BooksSaid, Carried, RoomFor, refigured, resummed};
 ghost use Rattle.book.specs.Promises.{Books};
 use crate::Booking;
 use crate::Plan;
@@ -17,6 +19,7 @@ use layout::Record;
 use line::Outcome;
 use order::Figures;
 use order::Order;
+use quote::QuoteRow;
 use refusal::Refusal;
 use slot::Place;
 use table::damage;
@@ -76,6 +79,7 @@ fn book_line(t: &mut [u8], heads: &mut [u16], nexts: &mut [u16], own: Place, r: 
     requires { ⌜ sound (now t) ≡ true ⌝ }
     requires { ⌜ Beside (now t) (now heads) (now nexts) ⌝ }
     requires { ⌜ placeNo own ≡ place (keyOf r) (tableIn (now t) .orders) ⌝ }
+    requires { ⌜ LawfulRecord r ⌝ }
     ensures { λ x. ⌜ BooksSaid (now (t .entry)) (Line·line r) x (now (t .exit)) ⌝ }
     ensures { λ _. ⌜ Beside (now (t .exit)) (now (heads .exit)) (now (nexts .exit)) ⌝ }
 {
@@ -86,6 +90,7 @@ fn book_line(t: &mut [u8], heads: &mut [u16], nexts: &mut [u16], own: Place, r: 
 fn carry_out(t: &mut [u8], heads: &mut [u16], nexts: &mut [u16], plan: Plan, r: Record) -> Booking
     requires { ⌜ RoomFor plan (now t) ⌝ }
     requires { ⌜ Beside (now t) (now heads) (now nexts) ⌝ }
+    requires { ⌜ sound (now t) ≡ true ⌝ }
     ensures { λ x. ⌜ Carried (now (t .entry)) plan r x (now (t .exit)) ⌝ }
     ensures { λ _. ⌜ Beside (now (t .exit)) (now (heads .exit)) (now (nexts .exit)) ⌝ }
 {
@@ -106,6 +111,14 @@ fn carry_out(t: &mut [u8], heads: &mut [u16], nexts: &mut [u16], plan: Plan, r: 
         Plan::Replace(i, f) => {
             refigure(t, i, f);
             lookup::append(t, heads, nexts, new_order(r, r.contracts, i as u64 + 1));
+            Booking::Booked
+        }
+        Plan::NewRow => {
+            table::append_row(t, QuoteRow::first(quote::quote_of(r), r.contracts));
+            Booking::Booked
+        }
+        Plan::Sums(i, executed, broken) => {
+            resum(t, i, executed, broken);
             Booking::Booked
         }
     }
@@ -137,4 +150,22 @@ fn reprice(t: &mut [u8], i: usize, p: u64)
     ensures { λ _. ⌜ now (t .exit) ≡ changedAt i (withPrice p) (now (t .entry)) ⌝ }
 {
     slot::store_price(t, i, p);
+}
+
+// The quote is read from the row, since a plan holds no array.
+fn resum(t: &mut [u8], i: usize, executed: u64, broken: u64)
+    requires { ⌜ RowInside (baseIn (now t)) i (now t) ⌝ }
+    ensures { λ _. ⌜ now (t .exit) ≡ resummed i executed broken (now (t .entry)) ⌝ }
+{
+    let old = table::row_at(t, i);
+    let quote = old.quote;
+    table::store_row(
+        t,
+        i,
+        QuoteRow {
+            quote,
+            executed,
+            broken,
+        },
+    );
 }

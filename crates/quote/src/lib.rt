@@ -1,7 +1,6 @@
 // Quotes and the rows of their fills, by value (02, 1).
-ghost use Prim.Native.Nat.{_+_, _-_, _≤_};
 ghost use mathlib.Core.Path.{_≡_};
-ghost use Rattle.quote.specs.Quotes.{mostExecuted, mostRows, newRow, quoteOf, rowBrokenBy, rowExecutedBy};
+ghost use Rattle.quote.specs.Quotes.{mostRows, newRow, quoteOf};
 
 mod sound;
 
@@ -56,33 +55,6 @@ impl QuoteRow {
             quote: q,
             executed: n,
             broken: 0,
-        }
-    }
-
-    pub fn execute(self, n: u64) -> Self
-        requires { ⌜ self .executed + n ≤ mostExecuted ⌝ }
-        ensures { λ r. ⌜ r ≡ rowExecutedBy self n ⌝ }
-    {
-        let quote = self.quote;
-        QuoteRow {
-            quote,
-            executed: self.executed + n,
-            broken: self.broken,
-        }
-    }
-
-    // Executed stays, as with an order.
-    pub fn mark_broken(self, n: u64) -> Self
-        requires { ⌜ self .executed ≤ mostExecuted ⌝ }
-        requires { ⌜ self .broken ≤ self .executed ⌝ }
-        requires { ⌜ n ≤ self .executed - self .broken ⌝ }
-        ensures { λ r. ⌜ r ≡ rowBrokenBy self n ⌝ }
-    {
-        let quote = self.quote;
-        QuoteRow {
-            quote,
-            executed: self.executed,
-            broken: self.broken + n,
         }
     }
 }

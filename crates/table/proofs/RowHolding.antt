@@ -1,8 +1,7 @@
 -- Bytes that hold a table: what a change of a quote row and one row more make of them (02, 1).
 use Prim.Native.Nat.{ℕ, _+_, _-_, _≤_, _<_}
 use native.Mathlib.Omega.{arith}
-use mathlib.Core.Path.{_≡_, refl, sym, ap, ap₂, _∙_}
-use mathlib.Core.Bool.{true}
+use mathlib.Core.Path.{_≡_, sym, ap, ap₂, _∙_}
 use mathlib.Core.List.{List, [], _∷_, _++_}
 use lib.Dec.{eqb}
 use lib.ListN.{length, getD, set}
@@ -22,7 +21,7 @@ use Rattle.quote_slot.specs.QuoteSlots.{rowAt, rowsIn, rowBytes, rowIn, FitsRow
 use Rattle.quote_slot.proofs.Laws.{length-rows, row-no, rows-set, rows-append, rows-kept, orders-before}
 use Rattle.table.specs.Changes.{rowOf, rowChanged, rowAppended}
 use Rattle.table.specs.Tables.{limitOf, countIn, rowCountIn, baseIn, spareIn, tableIn}
-use Rattle.table.proofs.Holding.{TailZero, Holds, byte-after, count-kept, tail-kept}
+use Rattle.table.proofs.Holding.{TailZero, Holds, count-kept, tail-kept}
 use Rattle.table.proofs.Limits.{slots-inside, rows-inside}
 use Rattle.table.proofs.RowLookups.{at-seen, amend-row-at}
 

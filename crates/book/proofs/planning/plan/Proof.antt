@@ -29,7 +29,7 @@ taken : (c : tie.After-is-taken) → c .is-taken .result ≡ (isMaker (begun c .
 unfolding begun
 taken c =
     let a = begun c .args in
-    c .is-taken .ensures ∙ taken-is (isMaker (a .r .event)) (keyOf (a .r)) (tableIn (now (a .t)) .orders) (orderIn (now (a .t))) (placeNo (a .own)) (begun c .pre .1 .1)
+    c .is-taken .ensures ∙ taken-is (isMaker (a .r .event)) (keyOf (a .r)) (tableIn (now (a .t)) .orders) (orderIn (now (a .t))) (placeNo (a .own)) (begun c .pre .1 .1 .0)
 
 -- ---- the needs
 
@@ -57,7 +57,7 @@ plan-older-requires : tie.Need-plan-older-requires
 unfolding begun
 plan-older-requires c κs =
     let o = c .before .before .before in
-    (begun o .pre .0, (begun o .pre .1 .0, (begun o .pre .1 .1, (not-over o, (sym (taken o) ∙ c .before .before .if2 .left, sym (c .before .is-new .ensures) ∙ not-true _ (c .if3 .taken))))))
+    (begun o .pre .0, (begun o .pre .1 .0, (begun o .pre .1 .1 .0, (not-over o, (sym (taken o) ∙ c .before .before .if2 .left, (sym (c .before .is-new .ensures) ∙ not-true _ (c .if3 .taken), begun o .pre .1 .1 .1))))))
 
 returns-3 : tie.Need-returns-3
 returns-3 c = search needs

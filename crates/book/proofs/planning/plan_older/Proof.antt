@@ -1,4 +1,4 @@
--- `book::planning::plan_older` meets its contract: no order has the key, or the plan is by the order at its place.
+-- `book::planning::plan_older` meets its contract: no order has the key and the plan is by quote rows, or it is by the order at its place.
 use Prim.Native.Nat.{_+_}
 use mathlib.Core.Path.{_≡_, refl, sym}
 use denote.Ref.{now}
@@ -10,7 +10,7 @@ use Rattle.day.specs.Refusals.{subject}
 use Rattle.day.specs.Machine.{place}
 use Rattle.book.proofs.Booked.{plan-is}
 use Rattle.book.proofs.There.{There, there}
-use Rattle.book.proofs.Planned.{unknown-key, about}
+use Rattle.book.proofs.Planned.{about}
 use borrow.Author.Needs.{needs}
 use Rattle.book.proofs.planning.plan_older.Statement.{statement}
 use Rattle.book.proofs.planning.plan_older.Tie as tie
@@ -40,13 +40,16 @@ enum-known-i c = search needs
 enum-told : tie.Need-enum-told
 enum-told c = search needs
 
-returns : tie.Need-returns
-returns c =
+plan-fill-requires : tie.Need-plan-fill-requires
+plan-fill-requires c κs =
     let start = c .before .before .before .before .before .before in
     let s = now (start .args .t) in
     let open-day = start .pre .1 .1 .1 in
-    unknown-key s (start .args .r) (open-day .0) (open-day .1 .0) (open-day .1 .1)
-    (nobody-found (subject (start .args .r)) (tableIn s .orders) (place-known (tableIn s .orders) _ _ (subject (start .args .r)) _ (c .before .before .subject .ensures) (c .enum-told .given .1) refl))
+    let absent = nobody-found (subject (start .args .r)) (tableIn s .orders) (place-known (tableIn s .orders) _ _ (subject (start .args .r)) _ (c .before .before .subject .ensures) (c .enum-told .given .1) refl) in
+    (start .pre .0, (open-day .1 .1 .1, (open-day .0, (open-day .1 .0, (open-day .1 .1 .0, absent)))))
+
+returns : tie.Need-returns
+returns c = c .plan-fill .ensures
 
 order-at-requires : tie.Need-order-at-requires
 order-at-requires c κs =
@@ -67,7 +70,7 @@ returns-2 c =
     let start = o .before .before .before .before .before .before .before .before in
     let open-day = start .pre .1 .1 .1 in
     plan-is _ _ _ _
-    (about (now (start .args .t)) (start .args .r) (open-day .0) (open-day .1 .0) (open-day .1 .1) _ _ (here o .is) (found-at (o .before)) (o .order-at .ensures) (here o .inside) _ (c .before .is-full .ensures))
+    (about (now (start .args .t)) (start .args .r) (open-day .0) (open-day .1 .0) (open-day .1 .1 .0) _ _ (here o .is) (found-at (o .before)) (o .order-at .ensures) (here o .inside) _ (c .before .is-full .ensures))
     (sym (c .plan-about .ensures))
 
 pub plan-older-spec : {M : Type 1} → statement M
@@ -77,6 +80,7 @@ plan-older-spec =
     subject-requires
     enum-known-i
     enum-told
+    plan-fill-requires
     returns
     order-at-requires
     is-full-requires

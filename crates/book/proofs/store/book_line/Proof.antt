@@ -8,7 +8,7 @@ plan-requires : tie.Need-plan-requires
 plan-requires c κs = search needs
 
 carry-out-requires : tie.Need-carry-out-requires
-carry-out-requires c κs = (c .before .before .before .plan .ensures .room, search needs)
+carry-out-requires c κs = (c .before .before .before .plan .ensures .room, (search needs, search needs))
 
 same-length : tie.Need-same-length
 same-length c = search needs

@@ -2,6 +2,7 @@
 use mathlib.Core.Path.{sym}
 use denote.Ref.{now}
 use Rattle.layout.specs.Line.{endOfDay, line}
+use Rattle.layout.proofs.Demand2.{demand2}
 use Rattle.table.specs.Tables.{tableIn}
 use Rattle.book.proofs.Booked.{own-place, outcome-is, read-as, unread, end-beside}
 use borrow.Author.Needs.{needs}
@@ -28,7 +29,9 @@ book-line-requires c κs =
     let start = c .before .before .before .before .before .before .before .before .before .before .before .before .before .before in
     let piece = now (start .args .piece) in
     let said = outcome-is piece _ _ _ (c .before .before .before .enum-told2 .given .1) (c .before .before .before .before .before .read-in .ensures .said) in
-    (search needs, (search needs, own-place piece (c .before .before .before .before .before .read-in .result .line) (tableIn (now (start .args .t)) .orders) _ (sym said) (c .before .before .before .before .before .before .own .ensures)))
+    let r = c .before .before .before .before .before .read-in .result .line in
+    let own = own-place piece r (tableIn (now (start .args .t)) .orders) _ (sym said) (c .before .before .before .before .before .before .own .ensures) in
+    (search needs, (search needs, (own, demand2 .read-back piece r (sym said) .0)))
 
 enum-known-outcome : tie.Need-enum-known-outcome
 enum-known-outcome c = search needs
