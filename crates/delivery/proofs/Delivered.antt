@@ -2,17 +2,19 @@
 use Prim.Native.Nat.{ℕ, _+_, _≤_, _<_}
 use native.Mathlib.Omega.{arith}
 use mathlib.Core.Path.{_≡_, refl, sym, ap, ap₂, subst, subst₂, _∙_}
-use mathlib.Core.Bool.{true}
+use mathlib.Core.Bool.{true, false}
 use mathlib.Core.List.{List, [], _∷_, _++_, append-assoc, append-nil}
 use borrow.Author.Tests.{le-ltb}
 use lib.ListN.{length, drop}
 use Rattle.run.proofs.Stores.{sets-start}
 use Rattle.refusal.specs.Answer.{Answer, value}
 use Rattle.layout.specs.Line.{read}
+use Rattle.quote.specs.declared.Quote.{Quote}
 use Rattle.day.specs.Demand3.{IsAnswer, IsSheet, AddsUp, joined, tableAfter, answerTo, historyAfter}
 use Rattle.day.specs.History.{History, ordersOf}
-use Rattle.day.specs.Listing.{membersOf, Each, shown}
+use Rattle.day.specs.Listing.{membersOf, Each, shown, shownQuote}
 use Rattle.day.specs.Machine.{book}
+use Rattle.day.specs.Quotes.{hasRow}
 use Rattle.day.specs.Tables.{Table, empty}
 use Rattle.day.specs.Walk.{sheetOf}
 use Rattle.day.proofs.Demand3.{demand3}
@@ -27,7 +29,7 @@ use Rattle.book.specs.declared.Booking.{Booking}
 use Rattle.book.proofs.Lengths.{day-length}
 use Rattle.book.proofs.Reached.{reached-bytes}
 use Rattle.sheet.specs.Promises.{Sheets, sheetWrittenOf, sheetAnswer, sheetFrom, textOf}
-use Rattle.sheet.specs.Texts.{sheetText}
+use Rattle.sheet.specs.Texts.{sheetText, longestSheet}
 use Rattle.sheet.specs.declared.SheetWritten.{SheetWritten}
 use Rattle.sheet.proofs.Bound.{least-sheet, sheet-bound}
 use Rattle.feed.specs.Printed.{report, printedFrom}
@@ -116,9 +118,11 @@ module _ (before : List ℕ) (meant : 0 < limitOf (length before)) where
         only-so = λ s x. demand3 limit .only-so ps s (subst (λ (a : History). IsSheet a s) h x) ∙ ap sheetOf (sym t);
         each-once = subst₂ (λ (a : History) (u : Table). (i : ℕ) → i < length (ordersOf a) → shown i (membersOf (sheetOf u .rows)) ≡ 1) (sym h) (sym t) (demand3 limit .each-once ps);
         no-other = subst₂ (λ (a : History) (u : Table). (i : ℕ) → length (ordersOf a) ≤ i → shown i (membersOf (sheetOf u .rows)) ≡ 0) (sym h) (sym t) (demand3 limit .no-other ps);
+        quote-once = subst₂ (λ (a : History) (u : Table). (q : Quote) → hasRow q a ≡ true → shownQuote q (sheetOf u .quotes) ≡ 1) (sym h) (sym t) (demand3 limit .quote-once ps);
+        no-other-quote = subst₂ (λ (a : History) (u : Table). (q : Quote) → hasRow q a ≡ false → shownQuote q (sheetOf u .quotes) ≡ 0) (sym h) (sym t) (demand3 limit .no-other-quote ps);
         adds-up = subst (λ (u : Table). Each AddsUp (sheetOf u .rows)) (sym t) (demand3 limit .adds-up ps);
         written = λ out x after p room. sheet-written table (still-sound d) out room p;
-        room = rw (same-limit d) at (sheet-bound table (still-sound d));
+        room = subst (λ (k : ℕ). length (textOf table) ≤ longestSheet k) (same-limit d) (sheet-bound table (still-sound d));
       }
 
 delivered : (before : List ℕ) → 0 < limitOf (length before) → Delivered before

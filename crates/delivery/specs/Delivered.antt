@@ -2,13 +2,16 @@
 -- sheet program prints. proofs/Delivered.antt proves it.
 use Prim.Native.Nat.{ℕ, _+_, _≤_, _<_}
 use mathlib.Core.Path.{_≡_}
+use mathlib.Core.Bool.{true, false}
 use mathlib.Core.List.{List, [], _∷_, _++_}
 use lib.ListN.{length, drop}
 use Rattle.refusal.specs.Answer.{value}
 use Rattle.layout.specs.Line.{read}
+use Rattle.quote.specs.declared.Quote.{Quote}
 use Rattle.day.specs.Demand3.{IsAnswer, IsSheet, AddsUp, joined}
 use Rattle.day.specs.History.{History, ordersOf}
-use Rattle.day.specs.Listing.{Sheet, membersOf, Each, shown}
+use Rattle.day.specs.Listing.{Sheet, membersOf, Each, shown, shownQuote}
+use Rattle.day.specs.Quotes.{hasRow}
 use Rattle.table.specs.Promises.{Makes}
 use Rattle.table.specs.Tables.{limitOf}
 use Rattle.table.specs.declared.Made.{Made}
@@ -56,9 +59,12 @@ pub record Shows (limit : ℕ) (h : History) (table : List ℕ) : Type 0 where
   -- "every accepted order once and no other"
   pub each-once : (i : ℕ) → i < length (ordersOf h) → shown i (membersOf (sheet .rows)) ≡ 1
   pub no-other : (i : ℕ) → length (ordersOf h) ≤ i → shown i (membersOf (sheet .rows)) ≡ 0
+  -- 02, 1: "each quote row also appears once", and no other
+  pub quote-once : (q : Quote) → hasRow q h ≡ true → shownQuote q (sheet .quotes) ≡ 1
+  pub no-other-quote : (q : Quote) → hasRow q h ≡ false → shownQuote q (sheet .quotes) ≡ 0
   -- "and size equals executed plus cancelled plus passed on plus open"
   pub adds-up : Each AddsUp (sheet .rows)
-  -- "Given room": its text is written, and only the bytes it needs, from the front
+  -- "Given room": its text, the quote section below the families, is written, and only the bytes it needs, from the front
   pub written : (out : List ℕ) (x : SheetWritten) (after : List ℕ) → Sheets table out x after → length (textOfSheet sheet) ≤ length out
       → (sheetWrittenOf x ≡ value (length (textOfSheet sheet))) × (after ≡ textOfSheet sheet ++ drop (length (textOfSheet sheet)) out)
   -- and there is room in every buffer of this length

@@ -61,7 +61,9 @@ last-limit [] l t = refl
 last-limit (b ∷ p) l t = ap limitOf (booked-length t (b ∷ p))
 
 last-bound : (held : List ℕ) (l : ℕ) (t : List ℕ) → sound t ≡ true → length (textOf (lastTable (between held l t))) ≤ longestSheet (limitOf (length t))
-last-bound held l t e = rw (last-limit held l t) at (sheet-bound (lastTable (between held l t)) (last-sound held l t e))
+last-bound held l t e =
+    let last = lastTable (between held l t) in
+    subst (λ (limit : ℕ). length (textOf last) ≤ longestSheet limit) (last-limit held l t) (sheet-bound last (last-sound held l t e))
 
 pub finished-most : (held : List ℕ) (l : ℕ) (t : List ℕ) → sound t ≡ true → length (finished (between held l t)) ≤ roomAtEnd (limitOf (length t))
 finished-most held l t e =

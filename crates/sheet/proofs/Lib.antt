@@ -14,11 +14,13 @@ pub mod Stretches
 pub mod Fitting
 -- What the walk writes are the rows of the sheet
 pub mod Rowing
+-- What is done of the quote section and the lines left are all of it
+pub mod Quoting
 -- Each way out of the sheet keeps the promise
 pub mod Answering
 -- Pages joined are one page; each way out of a page keeps its promise
 pub mod Paging
--- 24 bytes and 78 a row are always enough
+-- 24 bytes, 78 a row and 52 a quote row are always enough
 pub mod Bound
 -- Two outcomes that a promise allows are equal
 pub mod Determined

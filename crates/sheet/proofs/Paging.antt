@@ -23,8 +23,8 @@ use Rattle.slot.specs.Places.{ordersIn}
 use Rattle.slot.proofs.Laws.{length-orders}
 use Rattle.table.specs.Tables.{countIn, sound, tableIn}
 use Rattle.sheet.specs.Pages.{Pages, pageOf, pageOfSheet, rowByRow}
-use Rattle.sheet.specs.Promises.{textOf, sheetWrittenOf, textAnswer, textFrom}
-use Rattle.sheet.specs.Texts.{rowsText}
+use Rattle.sheet.specs.Promises.{sheetWrittenOf, textAnswer, textFrom}
+use Rattle.sheet.specs.Texts.{familiesText, rowsText}
 use Rattle.sheet.specs.Walk.{eldersIn, membersLeft, stretchText, textLeft}
 use Rattle.sheet.specs.declared.Turn.{Turn}
 use Rattle.sheet.specs.declared.SheetWritten.{SheetWritten}
@@ -101,7 +101,7 @@ page-text s n passed most x p q =
 
 -- 02, ticket 10: "Heading and rows joined in order are today's family section byte for byte"
 pub heading-and-rows : (s : List ℕ) → sound s ≡ true
-    → textOf s ≡ heading (sheetOf (tableIn s) .orders) (sheetOf (tableIn s) .families) ++ rowByRow s 0 (countIn s)
+    → familiesText (sheetOf (tableIn s)) ≡ heading (sheetOf (tableIn s) .orders) (sheetOf (tableIn s) .families) ++ rowByRow s 0 (countIn s)
 heading-and-rows s e =
     let os = ordersIn 0 (countIn s) s in
     let members = families 1 0 (eldersIn (countIn s) s) in

@@ -8,13 +8,17 @@ use lib.ListN.{length}
 use lib.Seq.{sets}
 use Rattle.refusal.specs.Answer.{Answer, value, refused, refusedBy}
 use Rattle.table.specs.Tables.{tableIn, sound}
-use Rattle.sheet.specs.Texts.{sheetText}
+use Rattle.sheet.specs.Texts.{quotesText, sheetText}
 use Rattle.sheet.specs.declared.SheetWritten.{SheetWritten}
 use Rattle.sheet.specs.declared.SheetWritten.the-variants.{Done, Refused}
 
 -- the text of a lent table
 abbrev pub textOf : List ℕ → List ℕ
 textOf s = sheetText (tableIn s)
+
+-- 02, 1: the quote section of it
+abbrev pub sectionOf : List ℕ → List ℕ
+sectionOf s = quotesText (tableIn s .quotes)
 
 -- how many bytes were written, in the paper's terms
 abbrev pub sheetWrittenOf : SheetWritten → Answer ℕ

@@ -7,6 +7,7 @@ ghost use Rattle.sheet.specs.Promises.{Sheets};
 
 mod family;
 mod kin;
+mod quotes;
 mod room;
 mod walk;
 
@@ -57,18 +58,21 @@ pub fn write_sound(t: &[u8], out: &mut [u8]) -> SheetWritten
     let n = header::count(t) as usize;
     let families = walk::count_roots(t, n);
     let head = heading::length(n as u64, families);
-    if out.len() < head {
+    let below = quotes::length(t);
+    if out.len() < head + below {
         return SheetWritten::Refused(Refusal::NoRoom);
     }
     let mut kin = [0u16; ORDERS];
     kin::note_all(t, n, &mut kin);
     let first = walk::start(t, n);
-    if !room::rows_fit(t, &kin, n, first, n, out.len() - head) {
+    if !room::rows_fit(t, &kin, n, first, n, out.len() - head - below) {
         return SheetWritten::Refused(Refusal::NoRoom);
     }
     let wrote = heading::write(n as u64, families, out);
     let rows = family::rows(t, &kin, n, first, n, &mut out[wrote..]);
-    SheetWritten::Done(wrote + rows)
+    let end = wrote + rows;
+    let lines = quotes::write(t, &mut out[end..]);
+    SheetWritten::Done(end + lines)
 }
 
 // A page of the sheet without its heading: so many rows behind the first ones, which are passed over.
