@@ -1,6 +1,8 @@
 -- 1. Keys and lookup
 -- Histories in which each key is made once, before its use
 pub mod Legal
+-- The first in a list that passes a test
+pub mod Firsts
 -- Finding, placing and changing orders by key
 pub mod Lookup
 -- 2. Checks

@@ -11,39 +11,35 @@ use Rattle.order.specs.Names.{keyOf, sameKey}
 use Rattle.order.specs.declared.Key.{Key}
 use Rattle.order.specs.declared.Order.{Order}
 use Rattle.day.specs.History.{History, isMaker, madeBy, linesThatMake, placeOf, orderOf, ordersOf, known, lineThatMade, isOver}
-use Rattle.day.specs.Machine.{Found, nobody, found, find, isFound, place, amend}
+use Rattle.day.specs.Machine.{nobody, found, find, isFound, place, amend}
 use Rattle.day.specs.Quotes.{quoteRowsOf}
 use Rattle.day.specs.Tables.{Table, empty, withOrders, withQuotes, withMark}
 use Rattle.run.proofs.Tests.{both}
 use Rattle.order.proofs.Sameness.{key-eq}
+use Rattle.day.proofs.Firsts.{Finds, Places, Amends, find-behind, amend-behind}
 use Rattle.day.proofs.Legal.{Legal, fresh-unknown}
 
 -- ---- any table
 
--- the order found first, or else the other
-abbrev orElse : Found → Found → Found
-orElse nobody f = f
-orElse (found o) f = found o
+module _ (k : Key) where
+  abbrev has : Order → Bool
+  has o = sameKey (o .key) k
 
-find-append : (k : Key) (os ps : List Order) → find k (os ++ ps) ≡ orElse (find k os) (find k ps)
-find-append k [] ps = refl
-find-append k (o ∷ os) ps = go (sameKey (o .key) k) (find-append k os ps)
-  where
-    go : (t : Bool) → find k (os ++ ps) ≡ orElse (find k os) (find k ps)
-        → cond t (found o) (find k (os ++ ps)) ≡ orElse (cond t (found o) (find k os)) (find k ps)
-    go true ih = refl
-    go false ih = ih
+  pub key-finds : Finds has nobody found isFound (find k)
+  key-finds = record { nobody = refl; somebody = λ o. refl; nil = refl; cons = λ o os. refl }
+
+  pub key-places : Places has (place k)
+  key-places = record { nil = refl; cons = λ o os. refl }
+
+  pub key-amends : (f : Order → Order) → Amends has f (amend k f)
+  key-amends f = record { nil = refl; cons = λ o os. refl }
+
+find-append : (k : Key) (os ps : List Order) → find k (os ++ ps) ≡ cond (isFound (find k os)) (find k os) (find k ps)
+find-append k os ps = find-behind (key-finds k) os ps
 
 amend-append : (k : Key) (f : Order → Order) (os ps : List Order)
     → amend k f (os ++ ps) ≡ amend k f os ++ cond (isFound (find k os)) ps (amend k f ps)
-amend-append k f [] ps = refl
-amend-append k f (o ∷ os) ps = go (sameKey (o .key) k) (amend-append k f os ps)
-  where
-    go : (t : Bool) → amend k f (os ++ ps) ≡ amend k f os ++ cond (isFound (find k os)) ps (amend k f ps)
-        → cond t (f o ∷ (os ++ ps)) (o ∷ amend k f (os ++ ps))
-        ≡ cond t (f o ∷ os) (o ∷ amend k f os) ++ cond (isFound (cond t (found o) (find k os))) ps (amend k f ps)
-    go true ih = refl
-    go false ih = ap {B = List Order} (λ l. o ∷ l) ih
+amend-append k f os ps = amend-behind (key-finds k) (key-amends k f) os ps
 
 -- who is found has a place, whoever comes later
 pub place-found : (k : Key) (os ps : List Order) → isFound (find k os) ≡ true → (1 ≤ place k os) × (place k (os ++ ps) ≡ place k os)
@@ -93,7 +89,8 @@ module _ (g : Record → Order) (keys : (m : Record) → g m .key ≡ keyOf m) w
   find-made k none (line r ∷ h) l = go (isMaker (r .event)) refl (find-made k none h (l .1))
     where
       last : (s t : Bool) (x : Record) → (s ≡ true → t ≡ false)
-          → orElse (cond t (found (g x)) nobody) (cond s (found (g r)) nobody) ≡ cond (s || t) (found (g (cond s r x))) nobody
+          → let first = cond t (found (g x)) nobody in
+          cond (isFound first) first (cond s (found (g r)) nobody) ≡ cond (s || t) (found (g (cond s r x))) nobody
       last true true x n = absurd (false≢true (sym (n refl)))
       last true false x n = refl
       last false true x n = refl

@@ -1,7 +1,6 @@
 -- 02, 1: the quote rows that a legal history declares: which one a lookup finds, and what an accepted line makes of them.
 use Prim.Native.Nat.{ℕ, _+_}
 use native.Mathlib.Nat.{zero-add}
-use native.Mathlib.Omega.{arith}
 use mathlib.Core.Path.{_≡_, refl, sym, ap, ap₂, subst, _∙_}
 use mathlib.Core.Logic.{_⊎_, inl, inr}
 use mathlib.Core.Bool.{Bool, true, false, cond, not, _&&_, _||_, false≢true, and-false, and-true}
@@ -13,6 +12,7 @@ use Rattle.layout.specs.declared.Record.{Record}
 use Rattle.order.specs.Names.{keyOf}
 use Rattle.order.specs.declared.Key.{Key}
 use Rattle.quote.specs.Quotes.{namesQuote, quoteOf, sameQuote, newRow, rowExecutedBy, rowBrokenBy}
+use Rattle.quote.specs.Rows.{rowPlace}
 use Rattle.quote.specs.declared.Quote.{Quote}
 use Rattle.quote.specs.declared.QuoteRow.{QuoteRow}
 use Rattle.quote.proofs.Sameness.{quote-self, quote-eq, quote-comm}
@@ -20,38 +20,34 @@ use Rattle.run.proofs.Tests.{both, neither}
 use Rattle.day.specs.History.{History, isNew, isExecution, isBreak, isReplace, known, addIf, ordersOf}
 use Rattle.day.specs.Quotes.{isFill, belongs, ofQuote, fills, filledOf, hasRow, makesRow, quotesOf, quoteRowOf, quoteRowsOf}
 use Rattle.day.specs.Listing.{shownQuote}
-use Rattle.day.specs.Machine.{find, isFound, Seen, none, seen, isSeen, findRow, amendRow, toQuote, executeRow, bookFill, bookQuotes}
+use Rattle.day.specs.Machine.{find, isFound, none, seen, isSeen, findRow, amendRow, toQuote, executeRow, bookFill, bookQuotes}
 use Rattle.day.specs.Refusals.{subject}
+use Rattle.day.proofs.Firsts.{Finds, Places, Amends, find-behind, amend-behind}
 use Rattle.day.proofs.Legal.{Follows, Legal}
 use Rattle.day.proofs.Lookup.{is-known}
 use Rattle.day.proofs.Steps.{map-same}
 
 -- ---- any rows
 
--- the row seen first, or else the other
-abbrev orSeen : Seen → Seen → Seen
-orSeen none s = s
-orSeen (seen w) s = seen w
+module _ (q : Quote) where
+  abbrev has : QuoteRow → Bool
+  has w = sameQuote (w .quote) q
 
-find-append : (q : Quote) (ws vs : List QuoteRow) → findRow q (ws ++ vs) ≡ orSeen (findRow q ws) (findRow q vs)
-find-append q [] vs = refl
-find-append q (w ∷ ws) vs = go (sameQuote (w .quote) q) (find-append q ws vs)
-  where
-    go : (t : Bool) → findRow q (ws ++ vs) ≡ orSeen (findRow q ws) (findRow q vs)
-        → cond t (seen w) (findRow q (ws ++ vs)) ≡ orSeen (cond t (seen w) (findRow q ws)) (findRow q vs)
-    go true ih = refl
-    go false ih = ih
+  pub quote-finds : Finds has none seen isSeen (findRow q)
+  quote-finds = record { nobody = refl; somebody = λ w. refl; nil = refl; cons = λ w ws. refl }
+
+  pub quote-places : Places has (rowPlace q)
+  quote-places = record { nil = refl; cons = λ w ws. refl }
+
+  pub quote-amends : (f : QuoteRow → QuoteRow) → Amends has f (amendRow q f)
+  quote-amends f = record { nil = refl; cons = λ w ws. refl }
+
+pub find-append : (q : Quote) (ws vs : List QuoteRow) → findRow q (ws ++ vs) ≡ cond (isSeen (findRow q ws)) (findRow q ws) (findRow q vs)
+find-append q ws vs = find-behind (quote-finds q) ws vs
 
 amend-append : (q : Quote) (f : QuoteRow → QuoteRow) (ws vs : List QuoteRow)
     → amendRow q f (ws ++ vs) ≡ amendRow q f ws ++ cond (isSeen (findRow q ws)) vs (amendRow q f vs)
-amend-append q f [] vs = refl
-amend-append q f (w ∷ ws) vs = go (sameQuote (w .quote) q) (amend-append q f ws vs)
-  where
-    go : (t : Bool) → amendRow q f (ws ++ vs) ≡ amendRow q f ws ++ cond (isSeen (findRow q ws)) vs (amendRow q f vs)
-        → cond t (f w ∷ (ws ++ vs)) (w ∷ amendRow q f (ws ++ vs))
-        ≡ cond t (f w ∷ ws) (w ∷ amendRow q f ws) ++ cond (isSeen (cond t (seen w) (findRow q ws))) vs (amendRow q f vs)
-    go true ih = refl
-    go false ih = ap {B = List QuoteRow} (λ l. w ∷ l) ih
+amend-append q f ws vs = amend-behind (quote-finds q) (quote-amends q f) ws vs
 
 -- changed, if it is the quote's
 abbrev changed : Quote → (QuoteRow → QuoteRow) → QuoteRow → QuoteRow
@@ -98,7 +94,8 @@ module _ (k : History) where
   found-made q (line r ∷ h) = go (makesRow h r) refl (found-made q h)
     where
       last : (s t : Bool) → sameQuote (quoteOf r) q ≡ s → (s ≡ true → t ≡ false)
-          → orSeen (cond t (seen (rowOf q)) none) (cond s (seen (rowOf (quoteOf r))) none) ≡ cond (s || t) (seen (rowOf q)) none
+          → let first = cond t (seen (rowOf q)) none in
+          cond (isSeen first) first (cond s (seen (rowOf (quoteOf r))) none) ≡ cond (s || t) (seen (rowOf q)) none
       last true true e n = absurd (false≢true (sym (n refl)))
       last true false e n = ap (λ (x : Quote). seen (rowOf x)) (quote-eq (quoteOf r) q e)
       last false true e n = refl
