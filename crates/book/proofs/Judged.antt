@@ -20,11 +20,13 @@ use Rattle.day.specs.History.{isExecution, isBreak, isMaker}
 use Rattle.day.specs.Machine.{found, find, isFound, place, differs, notOpen, notExecuted, seen}
 use Rattle.day.specs.Machine.{none as unseen}
 use Rattle.day.specs.Quotes.{isFill}
+use Rattle.slot.specs.Slots.{askedOf}
 use Rattle.slot.specs.Places.{placeNo}
+use Rattle.slot.specs.declared.Asked.{Asked}
 use Rattle.slot.specs.declared.Place.{Place}
 use Rattle.slot.specs.declared.Place.the-variants.{At, Nobody}
 use Rattle.slot.proofs.Lookups.{at-found, nobody-found}
-use Rattle.book.specs.Plans.{planBy, planAbout, planRow}
+use Rattle.book.specs.Plans.{orderWith, planBy, planAbout, planRow}
 use Rattle.book.specs.declared.Plan.the-variants.{No, NewRow, Sums}
 
 -- ---- whether a key is taken
@@ -62,6 +64,10 @@ module _ (o : Order) (r : Record) where
 -- ---- the first condition that applies decides
 
 module _ (i : ℕ) (o : Order) (r : Record) (full : Bool) where
+  -- what is asked of an order is all that its plan goes by
+  pub by-asked : (a : Asked) → a ≡ askedOf o → planAbout i (orderWith a) r full ≡ planAbout i o r full
+  by-asked a e = rw e
+
   pub by-series : differs r (found o) ≡ true → No OtherSeries ≡ planAbout i o r full
   by-series d = rw d
 

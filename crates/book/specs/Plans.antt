@@ -2,7 +2,7 @@
 use Prim.Native.Nat.{ℕ, _+_, _<_}
 use mathlib.Core.Path.{_≡_}
 use mathlib.Core.Bool.{Bool, true, false, cond, _&&_}
-use mathlib.Core.List.{List}
+use mathlib.Core.List.{List, []}
 use lib.Dec.{leb}
 use lib.ListN.{length}
 use Rattle.refusal.specs.Answer.{Answer, value, refusedBy}
@@ -19,6 +19,7 @@ use Rattle.quote.specs.declared.QuoteRow.{QuoteRow}
 use Rattle.day.specs.History.{isExecution, isMaker}
 use Rattle.day.specs.Machine.{bookSaid, found, differs, notOpen, notExecuted, Seen, none, seen, rowNotExecuted, rowFull, withFigures, withPrice, newOrder}
 use Rattle.slot.specs.Places.{SlotInside}
+use Rattle.slot.specs.declared.Asked.{Asked}
 use Rattle.quote_slot.specs.QuoteSlots.{RowInside}
 use Rattle.table.specs.Changes.{changedAt, appended, rowChangedAt, rowAppended}
 use Rattle.table.specs.Tables.{countIn, rowCountIn, baseIn, limitOf, tableIn}
@@ -36,6 +37,11 @@ planBy Cancelled i f r = Change i (cancelledBy f (r .contracts))
 planBy (Broken t) i f r = Change i (brokenBy f (r .contracts))
 planBy Replaced i f r = Replace i (passedOn f)
 planBy Repriced i f r = Price i (r .price)
+
+-- an order that has what is asked and is blank in all else: the conditions of a line look at nothing else
+abbrev pub orderWith : Asked → Order
+orderWith a =
+    record { key = record { source = []; token = [] }; side = a .side; series = a .series; price = 0; elder = 0; figures = a .figures }
 
 -- the plan for a line about the order o at place i, by 9 to 12 in the order of 01; full says whether the table is
 abbrev pub planAbout : ℕ → Order → Record → Bool → Plan

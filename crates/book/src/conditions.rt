@@ -5,10 +5,11 @@ ghost use Rattle.order.specs.Names.{sameSeries};
 ghost use Rattle.day.specs.History.{isExecution, isMaker, isNew, isReplace};
 ghost use Rattle.day.specs.Quotes.{isFill};
 ghost use Rattle.day.specs.Machine.{found, differs as Machine·differs, notOpen, notExecuted};
+ghost use Rattle.book.specs.Plans.{orderWith};
 use layout::Event;
 use layout::Record;
-use order::Order;
 use order::Series;
+use slot::Asked;
 
 pub fn is_new(event: Event) -> bool
     ensures { λ r. ⌜ r ≡ isNew event ⌝ }
@@ -56,17 +57,17 @@ fn same_series(a: Series, b: Series) -> bool
         & (a.strike == b.strike)
 }
 
-pub fn differs(o: Order, r: Record) -> bool
-    ensures { λ x. ⌜ x ≡ Machine·differs r (found o) ⌝ }
+pub fn differs(a: Asked, r: Record) -> bool
+    ensures { λ x. ⌜ x ≡ Machine·differs r (found (orderWith a)) ⌝ }
 {
-    let series = o.series;
-    !((o.side == r.side) & same_series(series, order::series_of(r)))
+    let series = a.series;
+    !((a.side == r.side) & same_series(series, order::series_of(r)))
 }
 
-pub fn not_open(o: Order, r: Record) -> bool
-    ensures { λ x. ⌜ x ≡ notOpen r (found o) ⌝ }
+pub fn not_open(a: Asked, r: Record) -> bool
+    ensures { λ x. ⌜ x ≡ notOpen r (found (orderWith a)) ⌝ }
 {
-    let left = o.figures.open;
+    let left = a.figures.open;
     let event = r.event;
     match event {
         Event::Accepted => false,
@@ -78,11 +79,11 @@ pub fn not_open(o: Order, r: Record) -> bool
     }
 }
 
-pub fn not_executed(o: Order, r: Record) -> bool
-    requires { ⌜ Sound (o .figures) ⌝ }
-    ensures { λ x. ⌜ x ≡ notExecuted r (found o) ⌝ }
+pub fn not_executed(a: Asked, r: Record) -> bool
+    requires { ⌜ Sound (a .figures) ⌝ }
+    ensures { λ x. ⌜ x ≡ notExecuted r (found (orderWith a)) ⌝ }
 {
-    let unbroken = o.figures.executed - o.figures.broken;
+    let unbroken = a.figures.executed - a.figures.broken;
     let event = r.event;
     match event {
         Event::Accepted => false,

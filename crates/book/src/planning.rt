@@ -14,14 +14,14 @@ ghost use Rattle.slot.specs.Slots.{keyIn};
 ghost use Rattle.slot.specs.Places.{placeNo};
 ghost use Rattle.table.specs.Tables.{limitOf, tableIn, sound};
 ghost use Rattle.lookup.specs.Beside.{Beside};
-ghost use Rattle.book.specs.Plans.{Plans, planAbout, planBy};
+ghost use Rattle.book.specs.Plans.{Plans, orderWith, planAbout, planBy};
 use crate::Plan;
 use crate::conditions;
 use crate::fills;
 use layout::Event;
 use layout::Record;
-use order::Order;
 use refusal::Refusal;
+use slot::Asked;
 use slot::Place;
 use table::header;
 
@@ -108,38 +108,38 @@ fn plan_older(t: &[u8], heads: &[u16], nexts: &[u16], r: Record, own: Place) -> 
     let Place::At(i) = subject(t, heads, nexts, r, own) else {
         return fills::plan_fill(t, r);
     };
-    plan_about(i, slot::order_at(t, i), r, is_full(t))
+    plan_about(i, slot::asked_at(t, i), r, is_full(t))
 }
 
-// Of a line about the order o at place i: the first of refusals 9 to 12 that applies, or what is to be stored.
-fn plan_about(i: usize, o: Order, r: Record, full: bool) -> Plan
-    requires { ⌜ Sound (o .figures) ⌝ }
-    ensures { λ p. ⌜ p ≡ planAbout i o r full ⌝ }
+// Of a line about the order at place i, a being what is asked of it: the first of refusals 9 to 12 that applies, or what is to be stored.
+fn plan_about(i: usize, a: Asked, r: Record, full: bool) -> Plan
+    requires { ⌜ Sound (a .figures) ⌝ }
+    ensures { λ p. ⌜ p ≡ planAbout i (orderWith a) r full ⌝ }
 {
-    if conditions::differs(o, r) {
+    if conditions::differs(a, r) {
         return Plan::No(Refusal::OtherSeries);
     }
-    if conditions::not_open(o, r) {
+    if conditions::not_open(a, r) {
         return Plan::No(Refusal::NotOpen);
     }
-    if conditions::not_executed(o, r) {
+    if conditions::not_executed(a, r) {
         return Plan::No(Refusal::NotExecuted);
     }
     let event = r.event;
     if conditions::is_maker(event) & full {
         return Plan::No(Refusal::Full);
     }
-    plan_by(i, o, r)
+    plan_by(i, a, r)
 }
 
 // What no condition refused. An A never comes here; a match has all its cases.
-fn plan_by(i: usize, o: Order, r: Record) -> Plan
-    requires { ⌜ Sound (o .figures) ⌝ }
-    requires { ⌜ notOpen r (found o) ≡ false ⌝ }
-    requires { ⌜ notExecuted r (found o) ≡ false ⌝ }
-    ensures { λ p. ⌜ p ≡ planBy (r .event) i (o .figures) r ⌝ }
+fn plan_by(i: usize, a: Asked, r: Record) -> Plan
+    requires { ⌜ Sound (a .figures) ⌝ }
+    requires { ⌜ notOpen r (found (orderWith a)) ≡ false ⌝ }
+    requires { ⌜ notExecuted r (found (orderWith a)) ≡ false ⌝ }
+    ensures { λ p. ⌜ p ≡ planBy (r .event) i (a .figures) r ⌝ }
 {
-    let f = o.figures;
+    let f = a.figures;
     let event = r.event;
     match event {
         Event::Accepted => Plan::New,

@@ -11,6 +11,7 @@ use Rattle.order.specs.declared.Figures.{Figures}
 use Rattle.order.specs.declared.Key.{Key}
 use Rattle.order.specs.declared.Order.{Order}
 use Rattle.order.specs.declared.Series.{Series}
+use Rattle.slot.specs.declared.Asked.{Asked}
 
 -- the bytes of a slot
 abbrev pub slotWidth : ℕ
@@ -52,6 +53,10 @@ orderIn b =
       elder = le (part b 49 2);
       figures = figuresIn b;
     }
+
+-- what a line about an order asks of it
+abbrev pub askedOf : Order → Asked
+askedOf o = record { side = o .side; series = o .series; figures = o .figures }
 
 abbrev pub keyBytes : Key → List ℕ
 keyBytes k = k .source ++ k .token

@@ -8,6 +8,9 @@ pub use finding::find;
 pub use finding::find_indexed;
 pub use finding::keys;
 pub use finding::place_of;
+use order::Figures;
+use order::Series;
+pub use read::asked_at;
 pub use read::elder_at;
 pub use read::figures_in;
 pub use read::key_in;
@@ -26,6 +29,13 @@ pub const HEADER: usize = 8;
 pub const SLOT: usize = 80;
 
 pub const KEY: usize = 26;
+
+// Of an order, what the conditions and the figures of a line about it ask.
+pub struct Asked {
+    pub side: u8,
+    pub series: Series,
+    pub figures: Figures,
+}
 
 // The earliest order with a key.
 pub enum Place {

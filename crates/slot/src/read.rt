@@ -2,8 +2,9 @@
 ghost use Prim.Native.Nat.{_≤_};
 ghost use mathlib.Core.Path.{_≡_};
 ghost use lib.ListN.{length};
-ghost use Rattle.slot.specs.Slots.{slotWidth, orderIn, keyIn, seriesIn, figuresIn};
+ghost use Rattle.slot.specs.Slots.{slotWidth, orderIn, keyIn, seriesIn, figuresIn, askedOf};
 ghost use Rattle.slot.specs.Places.{slot, SlotInside};
+use crate::Asked;
 use crate::HEADER;
 use crate::KEY;
 use crate::SLOT;
@@ -75,6 +76,27 @@ pub fn order_at(t: &[u8], i: usize) -> Order
 {
     let at = HEADER + SLOT * i;
     order_in(&t[at..at + SLOT])
+}
+
+fn asked_in(b: &[u8]) -> Asked
+    requires { ⌜ length (now b) ≡ slotWidth ⌝ }
+    ensures { λ r. ⌜ r ≡ askedOf (orderIn (now (b .entry))) ⌝ }
+{
+    Asked {
+        side: b[offset::SIDE],
+        series: series_in(b),
+        figures: figures_in(b),
+    }
+}
+
+// What booking asks, and booking alone: `order_at` is left to the damage check. Each is compiled into its one caller so, and no order is made in memory for a
+// line or for an order that is checked.
+pub fn asked_at(t: &[u8], i: usize) -> Asked
+    requires { ⌜ SlotInside i (now t) ⌝ }
+    ensures { λ r. ⌜ r ≡ askedOf (orderIn (slot (now (t .entry)) i)) ⌝ }
+{
+    let at = HEADER + SLOT * i;
+    asked_in(&t[at..at + SLOT])
 }
 
 // The elder alone, for a walk over many orders.

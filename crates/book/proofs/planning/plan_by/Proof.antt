@@ -1,5 +1,6 @@
 -- `book::planning::plan_by` meets its contract.
 use borrow.Author.Needs.{needs}
+use Rattle.book.specs.Plans.{orderWith}
 use Rattle.book.proofs.Judged.{executable, cancellable, breakable}
 use Rattle.book.proofs.planning.plan_by.Statement.{statement}
 use Rattle.book.proofs.planning.plan_by.Tie as tie
@@ -11,19 +12,19 @@ enum-told-2 : tie.Need-enum-told-2
 enum-told-2 c = search needs
 
 execute-requires : tie.Need-execute-requires
-execute-requires c κs = (search needs, executable (c .before .before .before .args .o) (c .before .before .before .args .r) _ (c .enum-told2 .given .1) (search needs))
+execute-requires c κs = (search needs, executable (orderWith (c .before .before .before .args .a)) (c .before .before .before .args .r) _ (c .enum-told2 .given .1) (search needs))
 
 enum-told-3 : tie.Need-enum-told-3
 enum-told-3 c = search needs
 
 cancel-requires : tie.Need-cancel-requires
-cancel-requires c κs = (search needs, cancellable (c .before .before .before .args .o) (c .before .before .before .args .r) (c .enum-told3 .given .1) (search needs))
+cancel-requires c κs = (search needs, cancellable (orderWith (c .before .before .before .args .a)) (c .before .before .before .args .r) (c .enum-told3 .given .1) (search needs))
 
 enum-told-4 : tie.Need-enum-told-4
 enum-told-4 c = search needs
 
 mark-broken-requires : tie.Need-mark-broken-requires
-mark-broken-requires c κs = (search needs, breakable (c .before .before .before .args .o) (c .before .before .before .args .r) _ (c .enum-told4 .given .1) (search needs))
+mark-broken-requires c κs = (search needs, breakable (orderWith (c .before .before .before .args .a)) (c .before .before .before .args .r) _ (c .enum-told4 .given .1) (search needs))
 
 enum-told-5 : tie.Need-enum-told-5
 enum-told-5 c = search needs

@@ -1,6 +1,6 @@
 -- `book::planning::plan_older` meets its contract: no order has the key and the plan is by quote rows, or it is by the order at its place.
 use Prim.Native.Nat.{_+_}
-use mathlib.Core.Path.{_≡_, refl, sym}
+use mathlib.Core.Path.{_≡_, refl, sym, _∙_}
 use denote.Ref.{now}
 use Rattle.slot.specs.Slots.{orderIn}
 use Rattle.slot.specs.Places.{slot}
@@ -9,6 +9,7 @@ use Rattle.table.specs.Tables.{tableIn}
 use Rattle.day.specs.Refusals.{subject}
 use Rattle.day.specs.Machine.{place}
 use Rattle.book.proofs.Booked.{plan-is}
+use Rattle.book.proofs.Judged.{by-asked}
 use Rattle.book.proofs.There.{There, there}
 use Rattle.book.proofs.Planned.{about}
 use borrow.Author.Needs.{needs}
@@ -23,11 +24,11 @@ found-at c =
     let a = c .before .before .before .before .before .before .before .args in
     place-known (tableIn (now (a .t)) .orders) _ _ (subject (a .r)) _ (c .before .before .before .subject .ensures) (c .before .i .given .1) refl
 
-here : (c : tie.After-order-at) → let a = c .before .before .before .before .before .before .before .before .args in
-    There (now (a .t)) (subject (a .r)) (c .before .before .i .given .0 .0) (c .order-at .result)
+here : (c : tie.After-known-told) → let a = c .before .before .before .before .before .before .before .args in
+    let i = c .before .i .given .0 .0 in There (now (a .t)) (subject (a .r)) i (orderIn (slot (now (a .t)) i))
 here c =
-    let start = c .before .before .before .before .before .before .before .before in
-    there (now (start .args .t)) (subject (start .args .r)) _ _ (start .pre .0) (found-at (c .before)) (c .order-at .ensures)
+    let start = c .before .before .before .before .before .before .before in
+    there (now (start .args .t)) (subject (start .args .r)) _ _ (start .pre .0) (found-at c) refl
 
 -- ---- the needs
 
@@ -51,27 +52,26 @@ plan-fill-requires c κs =
 returns : tie.Need-returns
 returns c = c .plan-fill .ensures
 
-order-at-requires : tie.Need-order-at-requires
-order-at-requires c κs =
-    let start = c .before .before .before .before .before .before .before in
-    let s = now (start .args .t) in
-    let i = c .before .i .given .0 .0 in
-    there s (subject (start .args .r)) i (orderIn (slot s i)) (start .pre .0) (found-at c) refl .inside
+asked-at-requires : tie.Need-asked-at-requires
+asked-at-requires c κs = here c .inside
 
 is-full-requires : tie.Need-is-full-requires
 is-full-requires c κs = search needs
 
 plan-about-requires : tie.Need-plan-about-requires
-plan-about-requires c κs = here (c .before) .sums
+plan-about-requires c κs = rw (c .before .asked-at .ensures) (here (c .before .before) .sums)
 
 returns-2 : tie.Need-returns-2
 returns-2 c =
-    let o = c .before .before in
-    let start = o .before .before .before .before .before .before .before .before in
+    let o = c .before .before .before in
+    let start = o .before .before .before .before .before .before .before in
+    let s = now (start .args .t) in
+    let i = o .before .i .given .0 .0 in
+    let full = c .before .is-full in
     let open-day = start .pre .1 .1 .1 in
     plan-is _ _ _ _
-    (about (now (start .args .t)) (start .args .r) (open-day .0) (open-day .1 .0) (open-day .1 .1 .0) _ _ (here o .is) (found-at (o .before)) (o .order-at .ensures) (here o .inside) _ (c .before .is-full .ensures))
-    (sym (c .plan-about .ensures))
+    (about s (start .args .r) (open-day .0) (open-day .1 .0) (open-day .1 .1 .0) i _ (here o .is) (found-at o) refl (here o .inside) (full .result) (full .ensures))
+    (sym (c .plan-about .ensures ∙ by-asked i (orderIn (slot s i)) (start .args .r) (full .result) _ (c .before .before .asked-at .ensures)))
 
 pub plan-older-spec : {M : Type 1} → statement M
 plan-older-spec =
@@ -82,7 +82,7 @@ plan-older-spec =
     enum-told
     plan-fill-requires
     returns
-    order-at-requires
+    asked-at-requires
     is-full-requires
     plan-about-requires
     returns-2)
