@@ -14,9 +14,7 @@ use Rattle.run.specs.Found.{orElse}
 use Rattle.run.proofs.Found.{or-none}
 use Rattle.index.specs.Searches.{firstOf, hasKey, earliest}
 use Rattle.index.specs.Tags.{bucketOf}
-use Rattle.index.specs.Indexes.{latest, bucketIn, Indexed, Answers}
-use Rattle.index.specs.declared.Sought.{Sought}
-use Rattle.index.specs.declared.Sought.the-variants.{Found}
+use Rattle.index.specs.Indexes.{latest, bucketIn, Indexed, Falls}
 use Rattle.run.proofs.Sameness.{same-true}
 use Rattle.index.proofs.Firsts.{first-past}
 
@@ -111,6 +109,14 @@ module _ (keys : Section) (s : List ℕ) (n : ℕ) (heads nexts key : List ℕ) 
   pub walk-end : {best at : ℕ} → Walked best at → at ≤ 0 → best ≡ earliest keys s n key
   walk-end {best} {at} w l = let none : at ≡ 0 = omega arith in sym (w .kept ∙ rw none)
 
--- what a walk that came to the end of its chain answers
-pub walk-found : (k r : ℕ) (x : Sought) → Answers k x → x ≡ Found r → r ≡ k
-walk-found k r x a e = rw e at a
+-- ---- what a bucket leads to
+
+pub chain-falls : {keys : Section} {s : List ℕ} {n : ℕ} {heads nexts : List ℕ} → Indexed keys s n heads nexts → (b : ℕ) → b < length heads
+    → Falls nexts (getD heads b 0)
+chain-falls {keys} {s} {n} {heads} {nexts} x b l =
+    let f = bucketIn keys s (length heads) in
+    let within : getD heads b 0 ≤ n = omega (arith, x .firsts b l, latest-most f n b) in
+    record {
+      room = omega (arith, x .room);
+      earlier = λ i h. omega (arith, x .chains i (omega arith), latest-most f i (f i));
+    }

@@ -9,8 +9,6 @@ use lib.Seq.{sets}
 use Rattle.section.specs.Sections.{startOf, recordOf, Holds, KeyOf}
 use Rattle.section.specs.declared.Section.{Section}
 use Rattle.index.specs.Tags.{bucketOf}
-use Rattle.index.specs.declared.Sought.{Sought}
-use Rattle.index.specs.declared.Sought.the-variants.{Found, Long}
 
 -- the bucket of record i, of m
 abbrev pub bucketIn : Section → List ℕ → ℕ → ℕ → ℕ
@@ -29,10 +27,10 @@ pub record Indexed (keys : Section) (s : List ℕ) (n : ℕ) (heads nexts : List
   pub firsts : (b : ℕ) → b < length heads → getD heads b 0 ≡ latest (bucketIn keys s (length heads)) n b
   pub chains : (i : ℕ) → i < n → getD nexts i 0 ≡ latest (bucketIn keys s (length heads)) i (bucketIn keys s (length heads) i)
 
--- what a walk says of the number sought: where the chain is too long, nothing
-abbrev pub Answers : ℕ → Sought → Type 0
-Answers k (Found r) = r ≡ k
-Answers k Long = Unit {0}
+-- the first `at` records each lead to one before them, or to none
+pub record Falls (nexts : List ℕ) (at : ℕ) : Type 0 where
+  pub room : at ≤ length nexts
+  pub earlier : (i : ℕ) → i < at → getD nexts i 0 ≤ i
 
 -- ---- one record more
 
