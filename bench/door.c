@@ -17,6 +17,7 @@
 enum {
     MOST = 512,              /* orders of a full table */
     HALF = 256,
+    ROWS = 128,              /* quote rows of a full table */
     PIECES = 4096,           /* pieces of one call of book_all */
     ROUNDS = 3,              /* the best of so many counts */
     BATCH = 4096,            /* lines between two looks at the clock */
@@ -35,23 +36,24 @@ static void must(int holds, const char *what)
 
 /* ---- lines and tables */
 
-/* The line of order T(number): an A, a U for the order before, or an E of one contract. Another type leaves the ids and Liquidity blank. */
+/* The line of order T(number): an A, a U for the order before, or an E of one contract. Another type leaves the ids and Liquidity blank. A Q is an E of one
+   contract of the quote whose SQF id is the number. */
 static void write_line(uint8_t *line, char type, unsigned number)
 {
     char text[SKURZELT_LINE + 1], token[24], elder[24] = "";
-    int trades = type == 'E';
-    snprintf(token, sizeof token, "T%u", number);
+    int of_quote = type == 'Q', trades = of_quote || type == 'E';
+    snprintf(token, sizeof token, of_quote ? "%016X" : "T%u", number);
     if (type == 'U')
         snprintf(elder, sizeof elder, "T%u", number - 1);
-    int length = snprintf(text, sizeof text, "%8u%c175CFO%cBSI 0000900003ABCD01%-20s%-20s000836AFFB%6uMSFT  G2709C205750  12875000%9s%9s\r\n", 34293104 + number, type,
-                          trades ? 'A' : ' ', token, elder, trades ? 1 : 999999, trades ? "122853" : "", trades ? "122001" : "");
+    int length = snprintf(text, sizeof text, "%8u%c175CFO%cBSI 0000900003ABCD01%-20s%-20s000836AFFB%6uMSFT  G2709C205750  12875000%9s%9s\r\n", 34293104 + number,
+                          of_quote ? 'E' : type, trades ? 'A' : ' ', token, elder, trades ? 1 : 999999, trades ? "122853" : "", trades ? "122001" : "");
     must(length == SKURZELT_LINE, "a line is not 140 bytes long");
     memcpy(line, text, SKURZELT_LINE);
 }
 
 /* The tables that a call begins with, and the one that it books into. */
-static uint8_t empty[SKURZELT_TABLE], half[SKURZELT_TABLE], families[SKURZELT_TABLE], family[SKURZELT_TABLE], table[SKURZELT_TABLE];
-static uint8_t accepted[SKURZELT_LINE], executed[PIECES][SKURZELT_LINE];
+static uint8_t empty[SKURZELT_TABLE], half[SKURZELT_TABLE], families[SKURZELT_TABLE], family[SKURZELT_TABLE], quotes[SKURZELT_TABLE], table[SKURZELT_TABLE];
+static uint8_t accepted[SKURZELT_LINE], executed[PIECES][SKURZELT_LINE], quoted[PIECES][SKURZELT_LINE];
 static uint8_t sheet[SKURZELT_SHEET];
 
 static void check_sheet(const uint8_t *of, const char *heading)
@@ -80,8 +82,14 @@ static void prepare(void)
     fill(families, MOST, 'A', "orders 512 families 512\n");
     fill(family, MOST, 'U', "orders 512 families 1\n");
     write_line(accepted, 'A', 1);
-    for (unsigned i = 0; i < PIECES; i++)
+    for (unsigned i = 0; i < PIECES; i++) {
         write_line(executed[i], 'E', i % MOST + 1);
+        write_line(quoted[i], 'Q', i % ROWS + 1);
+    }
+    memcpy(quotes, families, sizeof quotes);
+    for (unsigned i = 0; i < ROWS; i++)
+        must(skurzelt_book(quotes, sizeof quotes, quoted[i], SKURZELT_LINE) == 0, "a quote row was refused");
+    check_sheet(quotes, "orders 512 families 512\n");
 }
 
 /* ---- what is measured: each is given the number of calls before it in its round */
@@ -105,6 +113,8 @@ static void book_first(uint64_t before)
 static void book_of_half(uint64_t before) { book(executed[before % HALF]); }
 
 static void book_of_most(uint64_t before) { book(executed[before % MOST]); }
+
+static void book_of_quotes(uint64_t before) { book(quoted[before % ROWS]); }
 
 static void check(uint64_t before)
 {
@@ -142,15 +152,26 @@ static size_t book_pieces(const uint8_t *text, size_t length, size_t at, uint64_
     return at + used;
 }
 
-static void book_all(uint64_t before)
+static void book_all_of(const uint8_t *text)
 {
     uint64_t pieces = 0;
-    (void)before;
-    must(book_pieces(executed[0], sizeof executed, 0, &pieces) == sizeof executed && pieces == PIECES, "book_all left pieces out");
+    must(book_pieces(text, sizeof executed, 0, &pieces) == sizeof executed && pieces == PIECES, "book_all left pieces out");
 }
 
-/* The calls by name, each with the table that a round begins with and the lines that one call is about. An E takes one contract of each order in turn, so that a
-   round runs out of none. */
+static void book_all(uint64_t before)
+{
+    (void)before;
+    book_all_of(executed[0]);
+}
+
+static void book_all_quotes(uint64_t before)
+{
+    (void)before;
+    book_all_of(quoted[0]);
+}
+
+/* The calls by name, each with the table that a round begins with and the lines that one call is about. An E takes one contract of each order in turn, or of each
+   quote row, so that a round runs out of none. */
 static const struct measure {
     const char *name;
     const uint8_t *begin;
@@ -162,11 +183,15 @@ static const struct measure {
     {"book, 256 orders: an E", half, book_of_half, 1},
     {"book, 512 orders: an E", families, book_of_most, 1},
     {"book_all, 512 orders: 4,096 E's, each", families, book_all, PIECES},
+    {"book, 512 orders, 128 rows: a quote's E", quotes, book_of_quotes, 1},
+    {"book_all, 128 rows: 4,096 quotes' E's, each", quotes, book_all_quotes, PIECES},
     {"check_table, one family of 512 orders", family, check, 1},
     {"check_table, 512 families", families, check, 1},
+    {"check_table, 512 families, 128 quote rows", quotes, check, 1},
     {"find_order, 512 orders: each in turn", families, find, 1},
     {"sheet, one family of 512 orders", family, write_sheet, 1},
     {"sheet, 512 families", families, write_sheet, 1},
+    {"sheet, 512 families, 128 quote rows", quotes, write_sheet, 1},
 };
 enum { COUNT = sizeof MEASURES / sizeof MEASURES[0] };
 

@@ -1,4 +1,4 @@
-/* Skurzelt: QUO DROP lines, the table of a day's orders, and the family sheet.
+/* Skurzelt: QUO DROP lines, the table of a day's orders and quote rows, and the family sheet.
 
    Lending. The library keeps nothing and allocates nothing. A caller lends bytes or answers (a pointer and how many) and numbers (a pointer to one)
    for the time of one call. What is lent as const is only read. Two buffers lent to one call as const may overlap (a key may stand inside its own table); a
@@ -9,7 +9,7 @@
    use skurzelt_refusal() and skurzelt_field(). A refused call has changed no lent byte and no lent number. Any bytes may be lent, of any length:
    a call always answers.
 
-   The layouts of a table, of an order in it and of a record are in docs/LAYOUT.md. */
+   The layouts of a table, of an order or a quote row in it and of a record are in docs/LAYOUT.md. */
 
 #ifndef SKURZELT_H
 #define SKURZELT_H
@@ -29,11 +29,12 @@ enum {
     SKURZELT_DAMAGED = 5,       /* the table is damaged */
     SKURZELT_DAY_OVER = 6,      /* end of day was booked before */
     SKURZELT_KNOWN_KEY = 7,     /* A or U: the key is in the table */
-    SKURZELT_UNKNOWN_KEY = 8,   /* the key, or the elder's, is not in the table; no order is at the place */
+    SKURZELT_UNKNOWN_KEY = 8,   /* the key, or the elder's, is not in the table; no order or quote row is at the place */
     SKURZELT_OTHER_SERIES = 9,  /* side or series differs */
     SKURZELT_NOT_OPEN = 10,     /* more than is open, or nothing is open */
     SKURZELT_NOT_EXECUTED = 11, /* more than executed less broken */
-    SKURZELT_FULL = 12          /* the table is full */
+    SKURZELT_FULL = 12,         /* the table is full */
+    SKURZELT_ROWS_FULL = 13     /* no quote row is left, or a row's executed would be above 4,294,967,295 */
 };
 
 enum {
@@ -41,8 +42,9 @@ enum {
     SKURZELT_RECORD = 138,     /* bytes of a record */
     SKURZELT_KEY = 26,         /* bytes of a key: six of Source, twenty of Token */
     SKURZELT_ORDER = 80,       /* bytes of an order in its table */
-    SKURZELT_TABLE = 40968,    /* bytes of a table: 512 orders */
-    SKURZELT_SHEET = 39960     /* a buffer of so many bytes is never too short for a sheet */
+    SKURZELT_QUOTE_ROW = 49,   /* bytes of a quote row in its table */
+    SKURZELT_TABLE = 47240,    /* bytes of a table: 512 orders, 128 quote rows */
+    SKURZELT_SHEET = 46616     /* a buffer of so many bytes is never too short for a sheet */
 };
 
 /* The refusal in an answer (0: none), and the field that comes with a 3. */
@@ -50,7 +52,7 @@ static inline unsigned skurzelt_refusal(uint32_t answer) { return answer % 256; 
 static inline unsigned skurzelt_field(uint32_t answer) { return answer / 256; }
 
 /* When the refusal in an answer is given, in the words of the build paper; an empty text for an answer that is none. The 512 of a 12 is the limit of
-   the table. */
+   the table. An E of an SQF id in no order is no 8, nor is a C of one that has a quote row. */
 static inline const char *skurzelt_refusal_text(uint32_t answer)
 {
     static const char *const words[] = {
@@ -66,7 +68,8 @@ static inline const char *skurzelt_refusal_text(uint32_t answer)
         "E C X R U: side or series differs from that order's (for U, the elder's)",
         "E X: n is more than open; U R: open is 0",
         "C: n is more than executed less broken",
-        "A or U: the table holds 512"
+        "A or U: the table holds 512",
+        "no quote row left, or a row's executed above 4,294,967,295"
     };
     unsigned number = skurzelt_refusal(answer);
     return number < sizeof words / sizeof words[0] ? words[number] : "";
@@ -94,7 +97,7 @@ uint32_t skurzelt_clock(uint64_t timestamp, uint64_t *hours, uint64_t *minutes, 
 
 /* ---- the table */
 
-/* Makes the empty table. Refuses 4 (under 40,968 bytes) and 5 (any more). */
+/* Makes the empty table. Refuses 4 (under 47,240 bytes) and 5 (any more). */
 uint32_t skurzelt_empty_table(uint8_t *table, size_t table_length);
 
 /* Whether a table is damaged: 0, or 5. */
@@ -107,7 +110,10 @@ uint32_t skurzelt_find_order(const uint8_t *table, size_t table_length, const ui
 /* Copies the order at a place into the first 80 bytes of order. Refuses 5, 4 (order under 80 bytes), then 8: no order is there. */
 uint32_t skurzelt_order_at(const uint8_t *table, size_t table_length, uint64_t place, uint8_t *order, size_t order_length);
 
-/* Books a piece. Refuses 5, 1, 2, 3, then 6 to 12. */
+/* Copies the quote row at a place, from 0, into the first 49 bytes of row. Refuses 5, 4 (row under 49 bytes), then 8: no quote row is there. */
+uint32_t skurzelt_quote_at(const uint8_t *table, size_t table_length, uint64_t place, uint8_t *row, size_t row_length);
+
+/* Books a piece. Refuses 5, 1, 2, 3, then 6 to 13. */
 uint32_t skurzelt_book(uint8_t *table, size_t table_length, const uint8_t *piece, size_t piece_length);
 
 /* Books the pieces of a text one after another, with one damage check for all of them: answers[i] becomes 0 or the refusal of piece i, counted from
@@ -116,7 +122,7 @@ uint32_t skurzelt_book(uint8_t *table, size_t table_length, const uint8_t *piece
    turn. A next call may go on at text + *used. Refuses 5, before anything. */
 uint32_t skurzelt_book_all(uint8_t *table, size_t table_length, const uint8_t *text, size_t text_length, uint32_t *answers, size_t answers_length, uint64_t *used, uint64_t *booked);
 
-/* Writes the family sheet into the first *written bytes of out. Refuses 5, then 4 (out too short). */
+/* Writes the family sheet, the quote rows below the families, into the first *written bytes of out. Refuses 5, then 4 (out too short). */
 uint32_t skurzelt_sheet(const uint8_t *table, size_t table_length, uint8_t *out, size_t out_length, uint64_t *written);
 
 /* ---- texts */

@@ -13,13 +13,14 @@ use crate::cases::set;
 use crate::cases::stream;
 use crate::cases::vectors;
 use crate::rules::day::MOST;
+use crate::rules::quotes::MOST_ROWS;
 use crate::rules::sheet;
 use crate::rules::trial;
 use crate::tests::check;
 
 const USAGE: &str = "\
 usage: second sheet < CAPTURE | second stream SEED COUNT | second day SEED COUNT | second alone SEED COUNT ORDERS |
-       second trial < CASES | second cases SEED COUNT | second random SEED COUNT | second vectors | second check";
+       second quotes SEED COUNT ROWS | second trial < CASES | second cases SEED COUNT | second random SEED COUNT | second vectors | second check";
 const BUFFER: usize = 1 << 16;
 
 fn main() -> ExitCode {
@@ -57,6 +58,15 @@ fn command(words: &[&str], output: &mut impl Write) -> io::Result<ExitCode> {
                 return Ok(usage());
             }
             long_day::write_alone(seed, count, orders, output)?;
+        }
+        ["quotes", seed, count, rows] => {
+            let (Ok(seed), Ok(count), Ok(rows)) = (seed.parse(), count.parse(), rows.parse()) else {
+                return Ok(usage());
+            };
+            if !(1..=MOST_ROWS).contains(&rows) {
+                return Ok(usage());
+            }
+            long_day::write_quotes(seed, count, rows, output)?;
         }
         ["trial"] => {
             let mut input = BufReader::with_capacity(BUFFER, io::stdin().lock());

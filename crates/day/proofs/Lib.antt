@@ -55,7 +55,7 @@ pub mod Rows
 -- 7. Demand 3
 -- Our booking and our sheet meet it, at every limit
 pub mod Demand3
--- The eight pieces of 01 compute
+-- The eight pieces of 01 and the case of quote rows compute
 pub mod Case
 -- Two that keep the same are one
 pub mod Tables
@@ -64,3 +64,5 @@ pub mod Settled
 -- 8. Refutations
 -- Each wrong booking or sheet breaks demand 3, by a witness
 pub mod Refuted
+-- And each that is wrong about quote rows
+pub mod RefutedQuotes

@@ -15,11 +15,10 @@ use Rattle.quote.specs.Quotes.{mostRows, mostExecuted, namesQuote, quoteOf, sam
 use Rattle.quote.specs.Rows.{rowPlace, unlike, allRowsSound}
 use Rattle.quote.specs.declared.Quote.{Quote}
 use Rattle.quote.specs.declared.QuoteRow.{QuoteRow}
-use Rattle.quote.proofs.Named.{names-holds}
 use Rattle.quote.proofs.Rows.{unlike-last}
 use Rattle.day.specs.Damage.{quotesUndamaged}
 use Rattle.day.specs.History.{isExecution, isBreak}
-use Rattle.day.specs.Machine.{Seen, none, seen, isSeen, findRow, amendRow, rowNotExecuted, rowFull, executeRow, bookFill}
+use Rattle.day.specs.Machine.{Seen, none, seen, isSeen, findRow, amendRow, rowNotExecuted, rowFull, executeRow}
 use Rattle.day.proofs.Lawful.{contracts-sized}
 
 pub record RowsUndamaged (ws : List QuoteRow) : Type 0 where
@@ -129,7 +128,7 @@ module _ (r : Record) (l : LawfulRecord r) where
   quote-lawful e =
       rw (
         l .fields 10 (omega arith) (omega arith),
-        names-holds (r .token) e,
+        e,
         l .fields 14 (omega arith) (omega arith),
         l .fields 16 (omega arith) (omega arith),
         l .fields 17 (omega arith) (omega arith),

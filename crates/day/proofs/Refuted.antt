@@ -14,7 +14,7 @@ use Rattle.layout.specs.declared.Event.the-variants.{Accepted, Executed, Broken
 use Rattle.layout.specs.declared.Record.{Record}
 use Rattle.order.specs.Names.{keyOf}
 use Rattle.order.specs.declared.Figures.{Figures}
-use Rattle.quote.specs.Quotes.{mostRows, namesQuote}
+use Rattle.quote.specs.Quotes.{namesQuote}
 use Rattle.day.specs.Case.{sample, host, token, fill, naming, replacing}
 use Rattle.day.specs.Damage.{openAt}
 use Rattle.day.specs.Demand3.{Demand3, tableAfter, answerTo, historyAfter}
@@ -212,7 +212,7 @@ module _ {limit : ℕ} (room : 2 ≤ limit) {sheet : Table → Sheet} where
   pub subject-by-token : (own : Lookup) (effect : Effect)
       → Demand3 limit (bookWith own (λ r. byToken (subject r)) effect limit) sheet
       → ⊥
-  unfolding read lineOf namesQuote mostRows
+  unfolding read lineOf namesQuote
   subject-by-token own effect demand =
       let none = none-applies demand (order ∷ []) (elsewhere (Executed fill)) (one demand (omega arith)) refl in
       none-of 8 (rules limit (line order ∷ []) (lineOf (elsewhere (Executed fill)))) none (line (elsewhere (Executed fill)), refl, (refl, refl, refl))

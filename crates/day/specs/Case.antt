@@ -1,7 +1,8 @@
--- 01, Whole case: its eight pieces, and what comes of them. proofs/Case.antt proves it of our booking.
+-- 01, Whole case: its eight pieces, and what comes of them; and a case of quote rows (02, 1). proofs/Case.antt proves both of our booking.
 use Prim.Native.Nat.{ℕ, _+_}
 use mathlib.Core.Path.{_≡_}
-use mathlib.Core.List.{List, [], _∷_, map}
+use mathlib.Core.List.{List, [], _∷_, _++_, map}
+use lib.ListN.{replicate}
 use Rattle.refusal.specs.Answer.{refused}
 use Rattle.layout.specs.Examples.{spaces}
 use Rattle.layout.specs.Line.{endOfDay, line, crlf, lineOf}
@@ -9,8 +10,13 @@ use Rattle.layout.specs.declared.Event.{Event}
 use Rattle.layout.specs.declared.Event.the-variants.{Accepted, Executed, Cancelled, Broken, Replaced}
 use Rattle.layout.specs.declared.Record.{Record}
 use Rattle.layout.specs.declared.Trade.{Trade}
+use Rattle.order.specs.declared.Figures.{Figures}
+use Rattle.quote.specs.Quotes.{quoteOf}
+use Rattle.quote.specs.declared.QuoteRow.{QuoteRow}
 use Rattle.day.specs.Demand3.{tableAfter, answerTo, historyAfter}
+use Rattle.day.specs.History.{figuresOf}
 use Rattle.day.specs.Listing.{Row, Sheet}
+use Rattle.day.specs.Quotes.{quoteRowsOf}
 use Rattle.day.specs.Tables.{Table, Booked}
 
 -- a line: five of its fields vary, "all else lawful"
@@ -103,4 +109,48 @@ pub record WholeCase (book : Table → List ℕ → Booked) (sheet : Table → S
         -- "100 30 30 0 70 0 ABCD01 T1", "60 0 0 10 0 50 ABCD01 T2", "5 0 0 0 0 5 ABCD01 T9"
         rows = showing 1 1 0 100 30 30 0 70 0 1 ∷ showing 1 2 1 60 0 0 10 0 50 2 ∷ showing 2 1 2 5 0 0 0 0 5 9 ∷ [];
         quotes = [];
+      }
+
+-- ---- 02, 1: a case of ours. "Orders are looked up first, so a later A or U with that key takes the lines that follow"
+
+-- sixteen characters 0-F, padded with spaces
+abbrev pub id : List ℕ
+id = replicate 16 70 ++ spaces 4
+
+-- a line of ABCD0 and a digit whose token is the id
+abbrev pub quoting : Event → ℕ → ℕ → Record
+quoting event d n = sample event (host d) id (spaces 20) n
+
+-- E 30; E 5 of ABCD02; C 10; A 100; E 20: the latest first
+abbrev pub fiveLines : List Record
+fiveLines =
+    quoting (Executed fill) 1 20
+    ∷ quoting Accepted 1 100
+    ∷ quoting (Broken fill) 1 10
+    ∷ quoting (Executed fill) 2 5
+    ∷ quoting (Executed fill) 1 30
+    ∷ []
+
+-- an order of 100 with 20 executed
+abbrev pub later : Figures
+later = record { size = 100; executed = 20; broken = 0; cancelled = 0; passed = 0; «open» = 80 }
+
+-- the row of a host's quote
+abbrev pub filled : (d executed broken : ℕ) → QuoteRow
+filled d e b = record { quote = quoteOf (quoting Accepted d 100); executed = e; broken = b }
+
+pub record QuoteCase (book : Table → List ℕ → Booked) (sheet : Table → Sheet) : Type 0 where
+  -- none is refused
+  pub all : historyAfter book (map lineOf fiveLines) ≡ map line fiveLines
+  -- the order has the last E alone
+  pub figures : figuresOf (record { source = host 1; token = id }) (map line fiveLines) ≡ later
+  -- one row for each Source, by first E, with sums from its own lines
+  pub rows : quoteRowsOf (map line fiveLines) ≡ filled 1 30 10 ∷ filled 2 5 0 ∷ []
+  pub shows : sheet (tableAfter book (map lineOf fiveLines))
+      ≡ record {
+        orders = 1;
+        families = 1;
+        rows =
+            record { member = record { family = 1; rank = 1; at = 0 }; figures = later; key = record { source = host 1; token = id } } ∷ [];
+        quotes = filled 1 30 10 ∷ filled 2 5 0 ∷ [];
       }

@@ -12,7 +12,7 @@ pub mod Damage
 pub mod Listing
 -- The tender's demand of any booking and any sheet
 pub mod Demand3
--- The eight pieces of 01, and what comes of them
+-- The eight pieces of 01, a case of quote rows, and what comes of them
 pub mod Case
 -- Demand 3 leaves nothing open
 pub mod Settled

@@ -1,23 +1,25 @@
--- Wrong bookings and wrong sheets, as 01 tells them. proofs/Refuted.antt shows that each breaks demand 3.
+-- Wrong bookings and wrong sheets, as 01 tells them, and of quote rows (02, 1). proofs/Refuted.antt and proofs/RefutedQuotes.antt show that each breaks demand 3.
 use Prim.Native.Nat.{ℕ, _+_, _≤_}
 use mathlib.Core.Path.{_≡_}
-use mathlib.Core.Bool.{Bool, cond, not, _&&_}
-use mathlib.Core.List.{List, [], _∷_}
+use mathlib.Core.Bool.{Bool, false, cond, not, _&&_}
+use mathlib.Core.List.{List, [], _∷_, _++_}
 use lib.Dec.{eqb}
 use lib.ListN.{length}
 use Rattle.run.specs.Runs.{same}
 use Rattle.refusal.specs.Answer.{Answer, value, refused}
-use Rattle.layout.specs.Line.{Said, endOfDay, line, read}
+use Rattle.layout.specs.Line.{Said, endOfDay, line, read, lineOf}
 use Rattle.layout.specs.declared.Event.{Event}
 use Rattle.layout.specs.declared.Record.{Record}
-use Rattle.order.specs.Names.{keyOf, sameKey}
+use Rattle.order.specs.Names.{keyOf, seriesOf, sameKey}
 use Rattle.order.specs.declared.Figures.{Figures}
 use Rattle.order.specs.declared.Key.{Key}
 use Rattle.order.specs.declared.Order.{Order}
+use Rattle.quote.specs.Quotes.{mostRows, quoteOf}
+use Rattle.quote.specs.declared.QuoteRow.{QuoteRow}
 use Rattle.day.specs.History.{isBreak}
 use Rattle.day.specs.Listing.{Row, Sheet, Each}
-use Rattle.day.specs.Machine.{Found, nobody, found, amend, Lookup, checksBy, firstOf, withFigures, bookEvent, bookQuotes}
-use Rattle.day.specs.Tables.{Table, withOrders, withQuotes, withOver, Booked}
+use Rattle.day.specs.Machine.{Found, nobody, found, isSeen, find, findRow, amend, Lookup, checksBy, firstOf, withFigures, bookEvent, bookQuotes}
+use Rattle.day.specs.Tables.{Table, empty, withOrders, withQuotes, withOver, Booked}
 
 -- ---- 01, Promises of reader, table and sheet
 
@@ -104,3 +106,40 @@ byToken k = findWhere (λ o. same (o .key .token) (k .token))
 -- "Freeing an order's key once nothing is open."
 abbrev pub ownOpen : Lookup
 ownOpen r = findWhere (λ o. sameKey (o .key) (keyOf r) && not (eqb (o .figures .«open») 0))
+
+-- ---- 02, 1: errors that a quick hand would make with quote rows
+
+-- no order, and this row alone
+abbrev pub oneRow : QuoteRow → Table
+oneRow w = withQuotes (w ∷ []) empty
+
+module _ (book : Table → List ℕ → Booked) where
+  -- "naming no order, then or later": a later order with the key begins with what the row executed
+  abbrev pub InheritsFills : Type 0
+  InheritsFills =
+      (w : QuoteRow) (r : Record) (o : Order) → keyOf r ≡ w .quote .key
+      → find (keyOf r) (book (oneRow w) (lineOf r) .table .orders) ≡ found o
+      → o .figures .executed ≡ w .executed
+
+  -- "one for each Source, id, side and series": one for both sides
+  abbrev pub MixesSides : Type 0
+  MixesSides =
+      (w : QuoteRow) (r : Record) → keyOf r ≡ w .quote .key → seriesOf r ≡ w .quote .series
+      → length (book (oneRow w) (lineOf r) .table .quotes) ≡ 1
+
+  -- "11 as for orders": a C held against executed alone, whatever is broken already
+  abbrev pub ForgetsBroken : Type 0
+  ForgetsBroken =
+      (w : QuoteRow) (r : Record) → quoteOf r ≡ w .quote → r .contracts ≤ w .executed → book (oneRow w) (lineOf r) .answer ≡ refused 11 0
+      → ⊥
+
+  -- "13, no quote row left": never said of a line whose row is not there
+  abbrev pub DropsInSilence : Type 0
+  DropsInSilence =
+      (t : Table) (r : Record) → mostRows ≤ length (t .quotes) → isSeen (findRow (quoteOf r) (t .quotes)) ≡ false
+      → book t (lineOf r) .answer ≡ refused 13 0
+      → ⊥
+
+-- "each quote row also appears once": twice
+abbrev pub ShowsRowsTwice : (Table → Sheet) → Type 0
+ShowsRowsTwice sheet = (t : Table) → sheet t .quotes ≡ t .quotes ++ t .quotes

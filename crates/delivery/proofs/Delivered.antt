@@ -142,7 +142,7 @@ delivered before meant =
 pub delivery : Delivery
 delivery =
     record {
-      limit = sym (limit-is 40968 (sym least-length));
+      limit = sym (limit-is 47240 (sym least-length));
       no-other = λ n h. sym (limit-none n (λ e. h (e ∙ least-length)));
       longest = least-sheet;
       delivered = delivered;

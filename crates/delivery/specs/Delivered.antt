@@ -82,9 +82,9 @@ pub record Delivered (before : List ℕ) : Type 0 where
       → printed (limitOf (length before)) text ≡ refusalLines calls ++ textOfSheet (shows day .sheet)
 
 pub record Delivery : Type 0 where
-  -- 01, Orders and their figures: "A table holds at most 512 orders"; docs/LAYOUT.md: it has 40,968 bytes, and no other length has a meaning
-  pub limit : limitOf 40968 ≡ 512
-  pub no-other : (n : ℕ) → (n ≡ 40968 → ⊥) → limitOf n ≡ 0
+  -- 01, Orders and their figures: "A table holds at most 512 orders"; docs/LAYOUT.md: it has 47,240 bytes, and no other length has a meaning
+  pub limit : limitOf 47240 ≡ 512
+  pub no-other : (n : ℕ) → (n ≡ 47240 → ⊥) → limitOf n ≡ 0
   -- include/skurzelt.h: what a sheet of such a table takes at most
-  pub longest : longestSheet 512 ≡ 39960
+  pub longest : longestSheet 512 ≡ 46616
   pub delivered : (before : List ℕ) → 0 < limitOf (length before) → Delivered before

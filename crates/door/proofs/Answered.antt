@@ -16,8 +16,9 @@ use Rattle.line.specs.declared.StrikeValue.{StrikeValue}
 use Rattle.line.specs.declared.StrikeValue.the-variants.{Value, Refused as StrikeValue·Refused}
 use Rattle.line.specs.declared.TimeOfDay.{TimeOfDay}
 use Rattle.line.specs.declared.TimeOfDay.the-variants.{Time, Refused as TimeOfDay·Refused}
+use Rattle.section.specs.declared.Section.{Section}
 use Rattle.table.specs.Entries.{lookUpAnswer}
-use Rattle.table.specs.Promises.{madeOf, Makes, foundOf, LooksUp, Copies}
+use Rattle.table.specs.Promises.{madeOf, Makes, foundOf, LooksUp, CopiesOf}
 use Rattle.table.specs.Tables.{sound}
 use Rattle.table.specs.declared.Found.{Found}
 use Rattle.table.specs.declared.Found.the-variants.{At, Refused as Found·Refused}
@@ -35,7 +36,7 @@ use Rattle.sheet.specs.declared.SheetWritten.{SheetWritten}
 use Rattle.sheet.specs.declared.SheetWritten.the-variants.{Done as SheetWritten·Done, Refused as SheetWritten·Refused}
 use Rattle.piece.specs.Pieces.{nextPiece}
 use Rattle.piece.specs.declared.Ahead.{Ahead}
-use Rattle.door.specs.Promises.{numberAfter, endOf, StrikeValues, StrikeForms, Clocks, Empties, Checks, Finds, OrdersAt, BooksIn, BooksAllIn, SheetsIn, NextPieces}
+use Rattle.door.specs.Promises.{numberAfter, endOf, StrikeValues, StrikeForms, Clocks, Empties, Checks, Finds, RecordsAt, BooksIn, BooksAllIn, SheetsIn, NextPieces}
 
 -- ---- an answer as one number, and in a lent number
 
@@ -134,11 +135,11 @@ module _ (table key : List ℕ) (before : ℕ) (x : Found) (h : LooksUp table ke
       let s : refusedBy y ≡ lookUpAnswer table key = ap foundOf (sym e) ∙ h .said in
       record { said = says-refusal s c; told = tells-nothing (λ y. y) before s }
 
-module _ (table : List ℕ) (i : ℕ) (before : List ℕ) (x : Made) (after : List ℕ) (h : Copies table i before x after) where
-  pub copied : x ≡ Done → OrdersAt table i before 0 after
+module _ (c : Section) (n : ℕ) (table : List ℕ) (i : ℕ) (before : List ℕ) (x : Made) (after : List ℕ) (h : CopiesOf c n table i before x after) where
+  pub copied : x ≡ Done → RecordsAt c n table i before 0 after
   copied e = record { said = says-value (ap madeOf (sym e) ∙ h .said); out = h .out }
 
-  pub uncopied : (y : Refusal) (k : ℕ) → x ≡ Refused y → k ≡ codeFor y → OrdersAt table i before k after
+  pub uncopied : (y : Refusal) (k : ℕ) → x ≡ Refused y → k ≡ codeFor y → RecordsAt c n table i before k after
   uncopied y k e c = record { said = says-refusal (ap madeOf (sym e) ∙ h .said) c; out = h .out }
 
 module _ (before piece : List ℕ) (x : Booking) (after : List ℕ) (h : Books before piece x after) where

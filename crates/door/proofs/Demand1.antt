@@ -34,7 +34,8 @@ use Rattle.table.specs.Entries.{placeOr8, lookUpAnswer, copyAnswer, copiedFrom}
 use Rattle.section.specs.declared.Section.{Section}
 use Rattle.slot.specs.Slots.{keyIn}
 use Rattle.slot.specs.Places.{slots}
-use Rattle.table.specs.Tables.{tableLength, leastLimit, limitOf, countIn, tableIn, sound, makeAnswer, madeFrom}
+use Rattle.quote_slot.specs.QuoteSlots.{rows}
+use Rattle.table.specs.Tables.{tableLength, leastLimit, limitOf, countIn, rowCountIn, baseIn, tableIn, sound, makeAnswer, madeFrom}
 use Rattle.book.specs.Bytes.{bookAnswer, bookBytes}
 use Rattle.book.proofs.Refuted.{refusal-stays}
 use Rattle.piece.specs.Pieces.{pieces}
@@ -237,6 +238,7 @@ demand1 =
       check-table-answers = λ table r h. rw (h .said) (both Answers (sound table) (inl refl) (inr (Damaged, refl, λ e. absurd (omega arith))));
       find-order-answers = λ table key p r p' h. told (look-up-told table key) (h .said);
       order-at-answers = λ table i before r after h. told (copy-told slots (countIn table) table i before) (h .said);
+      quote-at-answers = λ table i before r after h. told (copy-told (rows (baseIn table)) (rowCountIn table) table i before) (h .said);
       book-answers = λ before piece r after h. told (book-told before piece) (h .said);
       book-all-answers = λ table text answers used booked r after given used' booked' h.
           (told (book-all-told table text answers) (h .said), all-answered table text answers used booked r after given used' booked' h);
@@ -261,6 +263,9 @@ demand1 =
       find-order-stays = λ table key p r p' h k. number-stays (lookUpAnswer table key) (h .said) k (λ x. x) p (h .told);
       order-at-stays = λ table i before r after h k.
           lent-stays (copyAnswer slots (countIn table) table i before) (h .said) k (λ a. copiedFrom a slots table i before) (λ n f. refl) (h .out);
+      quote-at-stays = λ table i before r after h k.
+          let records = rows (baseIn table) in
+          lent-stays (copyAnswer records (rowCountIn table) table i before) (h .said) k (λ a. copiedFrom a records table i before) (λ n f. refl) (h .out);
       book-stays = λ before piece r after h k. h .out ∙ refusal-stays before piece (sym (refusal (bookAnswer before piece) (h .said) k .2));
       book-all-stays = λ table text answers used booked r after given used' booked' h k.
           let a = bookAllAnswer table text answers in (

@@ -2,7 +2,8 @@
 use Prim.Native.Nat.{ℕ}
 use mathlib.Core.Path.{_≡_, sym, _∙_}
 use mathlib.Core.List.{List}
-use Rattle.door.specs.Promises.{Reads, Writes, StrikeValues, StrikeForms, Clocks, Empties, Checks, Finds, OrdersAt, BooksIn, BooksAllIn, SheetsIn, NextPieces}
+use Rattle.section.specs.declared.Section.{Section}
+use Rattle.door.specs.Promises.{Reads, Writes, StrikeValues, StrikeForms, Clocks, Empties, Checks, Finds, RecordsAt, BooksIn, BooksAllIn, SheetsIn, NextPieces}
 
 one : {A : Type 0} {x y z : A} → x ≡ z → y ≡ z → x ≡ y
 one p q = p ∙ sym q
@@ -36,9 +37,10 @@ checks-determined table r q x y = one (x .said) (y .said)
 pub finds-determined : (table key : List ℕ) (before r q i j : ℕ) → Finds table key before r i → Finds table key before q j → (r ≡ q) × (i ≡ j)
 finds-determined table key before r q i j x y = (one (x .said) (y .said), one (x .told) (y .told))
 
-pub orders-at-determined : (table : List ℕ) (i : ℕ) (before : List ℕ) (r q : ℕ) (a b : List ℕ)
-    → OrdersAt table i before r a → OrdersAt table i before q b → (r ≡ q) × (a ≡ b)
-orders-at-determined table i before r q a b x y = (one (x .said) (y .said), one (x .out) (y .out))
+-- an order as well as a quote row
+pub records-at-determined : (c : Section) (n : ℕ) (table : List ℕ) (i : ℕ) (before : List ℕ) (r q : ℕ) (a b : List ℕ)
+    → RecordsAt c n table i before r a → RecordsAt c n table i before q b → (r ≡ q) × (a ≡ b)
+records-at-determined c n table i before r q a b x y = (one (x .said) (y .said), one (x .out) (y .out))
 
 pub books-in-determined : (before piece : List ℕ) (r q : ℕ) (a b : List ℕ) → BooksIn before piece r a → BooksIn before piece q b → (r ≡ q) × (a ≡ b)
 books-in-determined before piece r q a b x y = (one (x .said) (y .said), one (x .out) (y .out))

@@ -1,4 +1,4 @@
--- The tender's demand 1, said of the promises of the door's thirteen entries, in the order of its sentences. proofs/Demand1.antt proves it.
+-- The tender's demand 1, said of the promises of the door's fourteen entries, in the order of its sentences. proofs/Demand1.antt proves it.
 use Prim.Native.Nat.{ℕ, _+_, _*_, _≤_, _<_}
 use mathlib.Core.Path.{_≡_}
 use mathlib.Core.List.{List}
@@ -6,7 +6,7 @@ use mathlib.Core.Logic.{_⊎_}
 use lib.ListN.{getD}
 use Rattle.refusal.specs.Numbers.{numberOf, fieldOf}
 use Rattle.refusal.specs.declared.Refusal.{Refusal}
-use Rattle.door.specs.Promises.{Reads, Writes, StrikeValues, StrikeForms, Clocks, Empties, Checks, Finds, OrdersAt, BooksIn, BooksAllIn, SheetsIn, NextPieces}
+use Rattle.door.specs.Promises.{Reads, Writes, StrikeValues, StrikeForms, Clocks, Empties, Checks, Finds, OrdersAt, QuotesAt, BooksIn, BooksAllIn, SheetsIn, NextPieces}
 
 -- one of the numbered refusals: a 3 names one of the 24 fields
 abbrev pub Numbered : ℕ → Type 0
@@ -31,6 +31,7 @@ pub record Demand1 : Type 0 where
   pub check-table-answers : (table : List ℕ) (r : ℕ) → Checks table r → Answers r
   pub find-order-answers : (table key : List ℕ) (p r p' : ℕ) → Finds table key p r p' → Answers r
   pub order-at-answers : (table : List ℕ) (i : ℕ) (before : List ℕ) (r : ℕ) (after : List ℕ) → OrdersAt table i before r after → Answers r
+  pub quote-at-answers : (table : List ℕ) (i : ℕ) (before : List ℕ) (r : ℕ) (after : List ℕ) → QuotesAt table i before r after → Answers r
   pub book-answers : (before piece : List ℕ) (r : ℕ) (after : List ℕ) → BooksIn before piece r after → Answers r
   -- so is each answer that it gives, one for each piece
   pub book-all-answers : (table text answers : List ℕ) (used booked r : ℕ) (after given : List ℕ) (used' booked' : ℕ)
@@ -50,6 +51,8 @@ pub record Demand1 : Type 0 where
   pub find-order-stays : (table key : List ℕ) (p r p' : ℕ) → Finds table key p r p' → Refuses r → p' ≡ p
   pub order-at-stays : (table : List ℕ) (i : ℕ) (before : List ℕ) (r : ℕ) (after : List ℕ)
       → OrdersAt table i before r after → Refuses r → after ≡ before
+  pub quote-at-stays : (table : List ℕ) (i : ℕ) (before : List ℕ) (r : ℕ) (after : List ℕ)
+      → QuotesAt table i before r after → Refuses r → after ≡ before
   pub book-stays : (before piece : List ℕ) (r : ℕ) (after : List ℕ) → BooksIn before piece r after → Refuses r → after ≡ before
   pub book-all-stays : (table text answers : List ℕ) (used booked r : ℕ) (after given : List ℕ) (used' booked' : ℕ)
       → BooksAllIn table text answers used booked r after given used' booked' → Refuses r

@@ -16,7 +16,8 @@ use Rattle.layout.specs.declared.Strike.{Strike}
 use Rattle.table.specs.Entries.{lookUpAnswer, copyAnswer, copiedFrom}
 use Rattle.section.specs.declared.Section.{Section}
 use Rattle.slot.specs.Places.{slots}
-use Rattle.table.specs.Tables.{countIn, makeAnswer, madeFrom, sound}
+use Rattle.quote_slot.specs.QuoteSlots.{rows}
+use Rattle.table.specs.Tables.{countIn, rowCountIn, baseIn, makeAnswer, madeFrom, sound}
 use Rattle.book.specs.Bytes.{bookAnswer, bookBytes}
 use Rattle.book_all.specs.Promises.{bookAllAnswer, tableFrom, answersFrom}
 use Rattle.book_all.specs.declared.Used.{Used}
@@ -106,6 +107,10 @@ pub record RecordsAt (c : Section) (n : ℕ) (table : List ℕ) (i : ℕ) (befor
 -- `skurzelt_order_at`
 abbrev pub OrdersAt : (table : List ℕ) (i : ℕ) (before : List ℕ) (r : ℕ) (after : List ℕ) → Type 0
 OrdersAt table = RecordsAt slots (countIn table) table
+
+-- `skurzelt_quote_at`
+abbrev pub QuotesAt : (table : List ℕ) (i : ℕ) (before : List ℕ) (r : ℕ) (after : List ℕ) → Type 0
+QuotesAt table = RecordsAt (rows (baseIn table)) (rowCountIn table) table
 
 -- `skurzelt_book`
 pub record BooksIn (before piece : List ℕ) (r : ℕ) (after : List ℕ) : Type 0 where

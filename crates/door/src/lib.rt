@@ -5,7 +5,7 @@ ghost use Prim.Native.Nat.{_≤_};
 ghost use lib.ListN.{length};
 ghost use Rattle.layout.specs.Line.{unlawful};
 ghost use Rattle.image.specs.Images.{recordIn, sooner};
-ghost use Rattle.door.specs.Promises.{BooksAllIn, BooksIn, Checks, Clocks, Empties, Finds, NextPieces, OrdersAt, Reads, SheetsIn, StrikeForms, StrikeValues, Writes};
+ghost use Rattle.door.specs.Promises.{BooksAllIn, BooksIn, Checks, Clocks, Empties, Finds, NextPieces, OrdersAt, QuotesAt, Reads, SheetsIn, StrikeForms, StrikeValues, Writes};
 use book::Booking;
 use book_all::BookedAll;
 use line::Outcome;
@@ -172,6 +172,17 @@ pub extern "C" fn skurzelt_order_at(table: &[u8], place: u64, order: &mut [u8]) 
     ensures { λ r. ⌜ OrdersAt (now (table .entry)) place (now (order .entry)) r (now (order .exit)) ⌝ }
 {
     match table::copy_order(table, place as usize, order) {
+        Made::Done => DONE,
+        Made::Refused(x) => refusal::code(x),
+    }
+}
+
+// The 49 bytes of the quote row at a place.
+#[no_mangle]
+pub extern "C" fn skurzelt_quote_at(table: &[u8], place: u64, row: &mut [u8]) -> u32
+    ensures { λ r. ⌜ QuotesAt (now (table .entry)) place (now (row .entry)) r (now (row .exit)) ⌝ }
+{
+    match table::copy_row(table, place as usize, row) {
         Made::Done => DONE,
         Made::Refused(x) => refusal::code(x),
     }

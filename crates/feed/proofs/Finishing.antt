@@ -91,7 +91,7 @@ module _ (held : List ℕ) (l : ℕ) (t : List ℕ) {t₁ : List ℕ} (e : t₁ 
 
 -- ---- a table of the least limit, as the sheet program has it
 
-pub least-room : (t : List ℕ) → length t ≡ tableLength leastLimit → (0 < limitOf (length t)) × (roomAtEnd (limitOf (length t)) ≡ 40006)
+pub least-room : (t : List ℕ) → length t ≡ tableLength leastLimit → (0 < limitOf (length t)) × (roomAtEnd (limitOf (length t)) ≡ 46662)
 least-room t e =
     let limit = limit-is (length t) e in
     (omega (arith, limit), ap roomAtEnd (sym limit) ∙ omega (arith, least-sheet))

@@ -4,5 +4,5 @@ pub mod Sameness
 pub mod Stored
 -- Rows with one more at the end
 pub mod Rows
--- What a token that names a quote holds, and how many rows there are
+-- How many rows a table has room for
 pub mod Named

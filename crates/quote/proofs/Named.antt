@@ -1,22 +1,7 @@
--- A token that names a quote holds an id.
+-- How many rows a table has room for, as a number: nothing else has to open its name.
 use mathlib.Core.Path.{_≡_, refl}
-use mathlib.Core.Bool.{true, false}
-use mathlib.Core.List.{List}
-use Prim.Native.Nat.{ℕ}
-use lib.Dec.{ltb}
-use Rattle.run.proofs.Tests.{both}
-use Rattle.quote.specs.Quotes.{mostRows, holdsId, namesQuote}
+use Rattle.quote.specs.Quotes.{mostRows}
 
-pub names-holds : (token : List ℕ) → namesQuote token ≡ true → holdsId token ≡ true
-unfolding namesQuote
-names-holds token e = both (ltb 0 mostRows) (holdsId token) e .1
-
--- how many rows a table has room for, as code has it
-pub row-number : mostRows ≡ 0
+pub row-number : mostRows ≡ 128
 unfolding mostRows
 row-number = refl
-
--- until then no token names a quote
-pub unnamed : (token : List ℕ) → namesQuote token ≡ false
-unfolding namesQuote mostRows
-unnamed token = refl

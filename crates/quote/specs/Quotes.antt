@@ -2,7 +2,7 @@
 use Prim.Native.Nat.{ℕ, _+_}
 use mathlib.Core.Bool.{Bool, _&&_}
 use mathlib.Core.List.{List}
-use lib.Dec.{leb, ltb, eqb}
+use lib.Dec.{leb, eqb}
 use lib.ListN.{take, drop}
 use Rattle.message.specs.Rule.{verbatim, hex, blank, run, lawful}
 use Rattle.message.specs.Values.{one}
@@ -13,21 +13,17 @@ use Rattle.order.specs.Stored.{lawfulSeries}
 use Rattle.quote.specs.declared.Quote.{Quote}
 use Rattle.quote.specs.declared.QuoteRow.{QuoteRow}
 
--- "Up to 128 rows": none yet, until the lent table has a place for them
+-- "Up to 128 rows"
 unfoldable pub mostRows : ℕ
-mostRows = 0
+mostRows = 128
 
 -- "a row's executed above 4,294,967,295"
 abbrev pub mostExecuted : ℕ
 mostExecuted = 4294967295
 
 -- "the 8-byte SQF id as 16 characters 0-F, padded with spaces": a token that is exactly that
-abbrev pub holdsId : List ℕ → Bool
-holdsId token = lawful (verbatim hex) 16 (run (take 16 token)) && lawful (verbatim blank) 4 (run (drop 16 token))
-
--- a token that names a quote, where a table has rows at all
 unfoldable pub namesQuote : List ℕ → Bool
-namesQuote token = ltb 0 mostRows && holdsId token
+namesQuote token = lawful (verbatim hex) 16 (run (take 16 token)) && lawful (verbatim blank) 4 (run (drop 16 token))
 
 -- ---- "one for each Source, id, side and series"
 
@@ -56,7 +52,7 @@ rowBrokenBy w n = record { quote = w .quote; executed = w .executed; broken = w 
 
 -- "one of the four breaking its rule"
 abbrev pub lawfulQuote : Quote → Bool
-lawfulQuote q = keepsRule 10 (run (q .key .source)) && holdsId (q .key .token) && keepsRule 14 (one (q .side)) && lawfulSeries (q .series)
+lawfulQuote q = keepsRule 10 (run (q .key .source)) && namesQuote (q .key .token) && keepsRule 14 (one (q .side)) && lawfulSeries (q .series)
 
 -- "executed outside 1 to 4,294,967,295, or broken above executed"
 abbrev pub soundRow : QuoteRow → Bool

@@ -10,8 +10,7 @@ use order::Series;
 pub use sound::names_quote;
 pub use sound::sound_row;
 
-// Up to 128 rows once the lent table has a place for them.
-pub const MOST_ROWS: usize = 0;
+pub const MOST_ROWS: usize = 128;
 
 pub const MOST_EXECUTED: u64 = 4_294_967_295;
 

@@ -1,11 +1,10 @@
 // When a token names a quote, and what a stored row may be. A stored number is any that its bytes can say, not only what a line can.
 ghost use mathlib.Core.Path.{_≡_};
 ghost use lib.ListN.{length};
-ghost use Rattle.quote.specs.Quotes.{holdsId, lawfulQuote, namesQuote, soundRow};
+ghost use Rattle.quote.specs.Quotes.{lawfulQuote, namesQuote, soundRow};
 use crate::MOST_EXECUTED;
 use crate::Quote;
 use crate::QuoteRow;
-use crate::most_rows;
 use field::Class;
 use field::verbatim;
 
@@ -14,19 +13,11 @@ const TOKEN: usize = 20;
 
 const ID: usize = 16;
 
-fn holds_id(token: &[u8]) -> bool
-    requires { ⌜ length (now token) ≡ 20 ⌝ }
-    ensures { λ r. ⌜ r ≡ holdsId (now (token .entry)) ⌝ }
-{
-    verbatim::all_of(&token[0..ID], Class::Hex) & verbatim::all_of(&token[ID..TOKEN], Class::Space)
-}
-
-// A token that names a quote, where a table has rows at all.
 pub fn names_quote(token: &[u8]) -> bool
     requires { ⌜ length (now token) ≡ 20 ⌝ }
     ensures { λ r. ⌜ r ≡ namesQuote (now (token .entry)) ⌝ }
 {
-    (0 < most_rows()) & holds_id(token)
+    verbatim::all_of(&token[0..ID], Class::Hex) & verbatim::all_of(&token[ID..TOKEN], Class::Space)
 }
 
 fn lawful_quote(q: Quote) -> bool
@@ -36,7 +27,7 @@ fn lawful_quote(q: Quote) -> bool
     let source = key.source;
     let token = key.token;
     order::is_text(&source)
-        & holds_id(&token)
+        & names_quote(&token)
         & run::member(q.side, &layout::SIDES)
         & order::lawful_series(q.series)
 }

@@ -13,7 +13,7 @@ use Rattle.message.specs.Rule.{text, hex, blank}
 use Rattle.layout.specs.Layout.{sides}
 use Rattle.layout.specs.Demand2.{LawfulRecord}
 use Rattle.layout.specs.declared.Record.{Record}
-use Rattle.quote.specs.Quotes.{holdsId, quoteOf, lawfulQuote, soundRow}
+use Rattle.quote.specs.Quotes.{namesQuote, quoteOf, lawfulQuote, soundRow}
 use Rattle.quote.specs.declared.Quote.{Quote}
 use Rattle.quote.specs.declared.QuoteRow.{QuoteRow}
 use Rattle.day.specs.Machine.{newOrder}
@@ -37,7 +37,8 @@ line-fits r l =
       strike = f .strike;
     }
 
-token-fits : (t : List ℕ) → holdsId t ≡ true → RunOf 20 t
+token-fits : (t : List ℕ) → namesQuote t ≡ true → RunOf 20 t
+unfolding namesQuote
 token-fits t e =
     let h = both _ _ e in
     let front = run-fits hex 16 (take 16 t) (h .0) in

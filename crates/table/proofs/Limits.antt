@@ -74,7 +74,7 @@ unfolding limitOf
 limit-least len h = omega (arith, among-length limits len h, among-least leastLimit limits len refl h)
 
 -- the bytes of the table that code makes
-pub least-length : tableLength leastLimit ≡ 40968
+pub least-length : tableLength leastLimit ≡ 47240
 least-length = omega (arith, row-number)
 
 -- the code's test

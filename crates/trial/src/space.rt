@@ -3,10 +3,10 @@ ghost use mathlib.Core.Path.{_≡_};
 ghost use lib.ListN.{length};
 
 // Room for the longest table in hand.
-pub fn table() -> [u8; 41_100]
-    ensures { λ r. ⌜ 41100 ≡ length r ⌝ }
+pub fn table() -> [u8; 47_400]
+    ensures { λ r. ⌜ 47400 ≡ length r ⌝ }
 {
-    [0; 41_100]
+    [0; 47_400]
 }
 
 // Room for the most answers, all of them a number that no answer is.

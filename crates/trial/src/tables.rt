@@ -19,7 +19,8 @@ fn in_hand(kind: u8, s: &[u8], t: &mut [u8]) -> bool {
         b'e' => make_empty(s, t),
         b'd' => damage(s, t),
         b'l' => look_up(s, t),
-        b'o' => copy_order(s, t),
+        b'o' => copy(s, t, kind),
+        b'q' => copy(s, t, kind),
         b'b' => book(s, t),
         b'a' => book_all(s, t),
         b'h' => sheet(s, t),
@@ -91,27 +92,28 @@ fn look_up(key: &[u8], t: &[u8]) -> bool {
     true
 }
 
-fn copy_order(s: &[u8], t: &[u8]) -> bool {
+// The order or the quote row at a place, into a buffer of so many bytes.
+fn copy(s: &[u8], t: &[u8], kind: u8) -> bool {
     if s.len() != 10 {
         return false;
     }
     let mut buffer = [b'.'; 300];
-    copied_in(
-        t,
-        cell::get(s, 0, 8),
-        &mut buffer,
-        cell::get(s, 8, 2) as usize,
-    )
-}
-
-// The order at a place, into a buffer of n bytes.
-fn copied_in(t: &[u8], place: u64, buffer: &mut [u8], n: usize) -> bool {
+    let n = cell::get(s, 8, 2) as usize;
     if buffer.len() < n {
         return false;
     }
-    let code = door::skurzelt_order_at(t, place, &mut buffer[0..n]);
-    say::filled(b"order ", code, &buffer[0..n]);
+    copied_in(t, cell::get(s, 0, 8), &mut buffer[0..n], kind);
     true
+}
+
+fn copied_in(t: &[u8], place: u64, out: &mut [u8], kind: u8) {
+    if kind == b'q' {
+        let code = door::skurzelt_quote_at(t, place, out);
+        say::filled(b"quote ", code, out);
+        return;
+    }
+    let code = door::skurzelt_order_at(t, place, out);
+    say::filled(b"order ", code, out);
 }
 
 fn book(piece: &[u8], t: &mut [u8]) -> bool {

@@ -1,4 +1,4 @@
-//! Cases about damage: each rule broken alone, from both sides (01, *Damaged*).
+//! Cases about damage: each rule broken alone, from both sides (01, *Damaged*, and 02, Ticket 1).
 
 use std::ops::Range;
 
@@ -6,11 +6,13 @@ use crate::cases::case::Written;
 use crate::cases::contents::EDGES;
 use crate::cases::hand::Hand;
 use crate::cases::random::Random;
-use crate::cases::sound_tables::{full_table, rich_table, RICH_ORDERS};
+use crate::cases::sound_tables::{full_table, rich_table, RICH_ORDERS, RICH_ROWS};
 use crate::rules::day::MOST;
 use crate::rules::fields::{DATE, DENOMINATOR, MONTH, PRICE, ROOT, SIDE, SOURCE, STRIKE, TOKEN, YEAR};
+use crate::rules::quotes::MOST_ROWS;
 use crate::rules::table::{
-    slot, BROKEN, CANCELLED, ELDER, EXECUTED, HEADER, KEPT, OPEN, PASSED_ON, REST, SIZE, SLOT, TABLE,
+    row, slot, BROKEN, CANCELLED, ELDER, EXECUTED, HEADER, KEPT, MARK, OPEN, PASSED_ON, REST, ROW, ROW_BROKEN,
+    ROW_COUNT, ROW_EXECUTED, SIZE, SLOT, SPARE, TABLE,
 };
 
 /// Places in the rich table: a family of three, and the last order, of which all is open.
@@ -19,8 +21,13 @@ const SECOND: usize = 2;
 const YOUNGEST: usize = 3;
 const LAST: usize = 8;
 const LAST_SIZE: u32 = 50;
-/// Where the header keeps the mark of end of day.
-const MARK: usize = 4;
+/// Quote rows of the rich table: three of one id, of which the second is of the other side and the third of another
+/// series, one of that id under another Source, and the last.
+const FIRST_ROW: usize = 0;
+const OTHER_SIDE: usize = 1;
+const OTHER_SERIES: usize = 2;
+const OTHER_SOURCE: usize = 3;
+const LAST_ROW: usize = 4;
 
 /// Bytes for some places of the table.
 type Change = Vec<(usize, Vec<u8>)>;
@@ -33,7 +40,9 @@ pub fn bounds(random: &mut Random, hand: &mut Hand) -> Written {
         apply(name, &changes, hand)?;
     }
     hand.take(full_table(random))?;
-    apply("damage: counts of a full table", &counts(), hand)
+    apply("damage: counts of a full table", &counts(), hand)?;
+    apply("damage: counts of the rows of a full table", &row_counts(), hand)?;
+    apply("damage: two rows of a full table alike", &alike_when_full(hand.table()), hand)
 }
 
 /// Writes changes of the rich table by chance.
@@ -67,7 +76,8 @@ fn groups() -> Vec<(&'static str, Vec<Change>)> {
     vec![
         ("damage: counts", counts()),
         ("damage: the mark of end of day", (0..=255).map(|mark| vec![(MARK, vec![mark])]).collect()),
-        ("damage: the rest of the header", rest(0, MARK + 1..HEADER)),
+        ("damage: counts of quote rows", row_counts()),
+        ("damage: the rest of the header", rest(0, SPARE..HEADER)),
         ("damage: an elder that isn't an earlier order", elders()),
         ("damage: two orders with one elder", shared_elders()),
         ("damage: an elder with open not 0", open_elders()),
@@ -82,6 +92,15 @@ fn groups() -> Vec<(&'static str, Vec<Change>)> {
         ("damage: prices", prices()),
         ("damage: the rest of a slot", rest(slot(LAST).start, REST..SLOT)),
         ("no damage: free slots", free_slots()),
+        ("damage: two quote rows alike", alike_rows()),
+        ("damage: ids of quote rows", ids()),
+        ("damage: texts of quote rows", row_texts()),
+        ("damage: codes of quote rows", [SIDE, MONTH, DENOMINATOR].into_iter().flat_map(every_row_byte).collect()),
+        ("damage: dates and years of quote rows", [DATE, YEAR].into_iter().flat_map(every_row_byte).collect()),
+        ("damage: strikes of quote rows", strikes_from(row_field(LAST_ROW, DENOMINATOR).start)),
+        ("damage: executed of quote rows", row_executed()),
+        ("damage: broken above executed in quote rows", row_broken()),
+        ("no damage: free quote rows", free_rows()),
     ]
 }
 
@@ -92,8 +111,18 @@ fn at(place: usize, part: usize) -> usize {
 
 /// Where a field of a slot stands in the table.
 fn field(place: usize, number: usize) -> Range<usize> {
+    field_from(slot(place).start, number)
+}
+
+/// Where a field of a quote row stands in the table.
+fn row_field(place: usize, number: usize) -> Range<usize> {
+    field_from(row(place).start, number)
+}
+
+/// The same of a slot or a row that begins at a place: both keep a field where the other does.
+fn field_from(start: usize, number: usize) -> Range<usize> {
     let kept = KEPT.iter().find(|(field, _)| *field == number).map_or(0..0, |(_, kept)| kept.clone());
-    at(place, kept.start)..at(place, kept.end)
+    start + kept.start..start + kept.end
 }
 
 /// Other figures for one order.
@@ -229,12 +258,14 @@ fn every_byte(number: usize) -> Vec<Change> {
 }
 
 fn strikes() -> Vec<Change> {
+    strikes_from(field(LAST, DENOMINATOR).start)
+}
+
+/// A denominator at a place, and a strike right behind it.
+fn strikes_from(code_at: usize) -> Vec<Change> {
     let bounds = [0, 1, 2, 99_999, 100_000, 100_001, 999_998, 999_999, 1_000_000];
     let wide = [1 << 24, 1 << 24 | 205_750, 1 << 31, u32::MAX];
-    let change = |code: u8, strike: u32| {
-        let (code_at, strike_at) = (field(LAST, DENOMINATOR).start, field(LAST, STRIKE).start);
-        vec![(code_at, vec![code]), (strike_at, strike.to_le_bytes().to_vec())]
-    };
+    let change = move |code: u8, strike: u32| vec![(code_at, [&[code][..], &strike.to_le_bytes()].concat())];
     let codes = b"@ABCDEF";
     codes.iter().flat_map(|code| bounds.into_iter().chain(wide).map(move |strike| change(*code, strike))).collect()
 }
@@ -257,8 +288,125 @@ fn free_slots() -> Vec<Change> {
     all
 }
 
-/// Up to three bytes anywhere in the header and the orders, now and then in the whole table.
+// Quote rows.
+
+fn row_counts() -> Vec<Change> {
+    (0..=255).map(|count| vec![(ROW_COUNT, vec![count])]).collect()
+}
+
+/// One figure of a quote row.
+fn row_figure(place: usize, part: usize, figure: u32) -> Change {
+    vec![(row(place).start + part, figure.to_le_bytes().to_vec())]
+}
+
+/// The side, the series or the Source that tells a row from the first one made the same, and near misses.
+fn alike_rows() -> Vec<Change> {
+    let side = |place, side: u8| (row_field(place, SIDE).start, vec![side]);
+    let strike = |place, strike: u32| (row_field(place, STRIKE).start, strike.to_le_bytes().to_vec());
+    let source = |place, source: &[u8; 6]| (row_field(place, SOURCE).start, source.to_vec());
+    let id = |place, id: &[u8; 16]| (row_field(place, TOKEN).start, id.to_vec());
+    let (first_id, last_id) = (b"00000000000000A1", b"00000000000000A2");
+    vec![
+        vec![side(OTHER_SIDE, b'B')],
+        vec![strike(OTHER_SERIES, 205_750)],
+        vec![source(OTHER_SOURCE, b"ABCD01")],
+        vec![id(LAST_ROW, first_id)],
+        vec![side(OTHER_SIDE, b'B'), strike(OTHER_SIDE, 205_751)],
+        vec![side(FIRST_ROW, b'S')],
+        vec![strike(FIRST_ROW, 205_751)],
+        vec![source(FIRST_ROW, b"ABCD02")],
+        vec![id(FIRST_ROW, last_id)],
+        vec![id(LAST_ROW, first_id), side(LAST_ROW, b'S')],
+        // Unlike again in something else.
+        vec![side(OTHER_SIDE, b'B'), strike(OTHER_SIDE, 205_752)],
+        vec![side(OTHER_SIDE, b'B'), source(OTHER_SIDE, b"ABCD03")],
+        vec![id(LAST_ROW, first_id), source(LAST_ROW, b"ABCD03")],
+        vec![strike(OTHER_SERIES, 205_750), side(OTHER_SERIES, b'S'), source(OTHER_SERIES, b"ABCD02")],
+        vec![id(LAST_ROW, b"0000000000000A10")],
+    ]
+}
+
+/// A row of the full table in the place of another, near and far.
+fn alike_when_full(table: &[u8]) -> Vec<Change> {
+    let pairs = [(0, 1), (1, 0), (0, MOST_ROWS - 1), (MOST_ROWS - 1, 0), (63, 64), (MOST_ROWS - 2, MOST_ROWS - 1)];
+    let name = |place: usize| table[row(place)][..ROW_EXECUTED].to_vec();
+    pairs.into_iter().map(|(from, to)| vec![(row(to).start, name(from))]).collect()
+}
+
+/// Every place of an id with both sides of its bounds, every place of its padding, and texts of other lengths.
+fn ids() -> Vec<Change> {
+    let places = row_field(LAST_ROW, TOKEN);
+    let (id, padding) = (places.start..places.start + 16, places.start + 16..places.end);
+    let byte = |at: usize, byte: u8| vec![(at, vec![byte])];
+    let mut all: Vec<_> = id.flat_map(|at| b"/09:@AFG`afg ~\0\xFF".iter().map(move |other| byte(at, *other))).collect();
+    all.extend(padding.flat_map(|at| b" 0A!\0\xFF".iter().map(move |other| byte(at, *other))));
+    all.extend((0..=255).map(|other| byte(places.start + 15, other)));
+    for token in ["T9", "0123456789ABCDE", "0123456789ABCDEF", "0123456789ABCDEF0", "01234567", "0123456789abcdef"] {
+        all.push(vec![(places.start, format!("{token:<20}").into_bytes())]);
+    }
+    all.extend([b' ', b'0', b'F', 0].map(|other| vec![(places.start, vec![other; 20])]));
+    all
+}
+
+fn row_texts() -> Vec<Change> {
+    let mut all = vec![];
+    for number in [SOURCE, ROOT] {
+        for place in [FIRST_ROW, LAST_ROW] {
+            let places = row_field(place, number);
+            all.extend([b' ', b'~', 0].map(|byte| vec![(places.start, vec![byte; places.len()])]));
+            all.extend(places.flat_map(|at| EDGES.iter().map(move |byte| vec![(at, vec![*byte])])));
+        }
+    }
+    all
+}
+
+fn every_row_byte(number: usize) -> Vec<Change> {
+    (0..=255).map(|byte| vec![(row_field(LAST_ROW, number).start, vec![byte])]).collect()
+}
+
+fn row_executed() -> Vec<Change> {
+    let figures = [0, 1, 2, 49, 50, 999_999, 1_000_000, 1 << 24, 1 << 31, u32::MAX - 1, u32::MAX];
+    let last = figures.into_iter().map(|executed| row_figure(LAST_ROW, ROW_EXECUTED, executed));
+    // The first has 10 broken.
+    let first = [0, 9, 10, 11, u32::MAX].map(|executed| row_figure(FIRST_ROW, ROW_EXECUTED, executed));
+    let nothing = [row_figure(LAST_ROW, ROW_EXECUTED, 0), row_figure(LAST_ROW, ROW_BROKEN, 0)].concat();
+    last.chain(first).chain([nothing]).collect()
+}
+
+fn row_broken() -> Vec<Change> {
+    let first = [0, 9, 10, 11, 29, 30, 31, 256, 1 << 16, 1 << 24, 1 << 31, u32::MAX];
+    let mut all: Vec<_> = first.map(|broken| row_figure(FIRST_ROW, ROW_BROKEN, broken)).into();
+    all.extend([0, 1, 50, 51, u32::MAX].map(|broken| row_figure(LAST_ROW, ROW_BROKEN, broken)));
+    for (executed, broken) in [(u32::MAX, u32::MAX), (u32::MAX, u32::MAX - 1), (u32::MAX - 1, u32::MAX), (1, 1), (1, 2)]
+    {
+        let both = [executed.to_le_bytes(), broken.to_le_bytes()].concat();
+        all.push(vec![(row(LAST_ROW).start + ROW_EXECUTED, both)]);
+    }
+    all
+}
+
+/// What would be damage in a row is none in the first free one, nor in the last.
+fn free_rows() -> Vec<Change> {
+    let mut all = vec![];
+    for place in [RICH_ROWS, MOST_ROWS - 1] {
+        all.extend([0, b' ', 0xFF].map(|byte| vec![(row(place).start, vec![byte; ROW])]));
+        all.push(row_figure(place, ROW_EXECUTED, 0));
+        all.push(row_figure(place, ROW_BROKEN, u32::MAX));
+    }
+    all
+}
+
+/// Up to three bytes anywhere in the header, the orders and the quote rows, now and then in the whole table.
 fn chance(random: &mut Random) -> Change {
-    let end = if random.once_in(16) { TABLE } else { slot(LAST).end };
-    (0..=random.below(3)).map(|_| (random.below(end), vec![random.any() as u8])).collect()
+    let rare = random.once_in(16);
+    (0..=random.below(3))
+        .map(|_| {
+            let place = match random.below(4) {
+                _ if rare => random.below(TABLE),
+                0 => row(0).start + random.below(ROW * RICH_ROWS),
+                _ => random.below(slot(LAST).end),
+            };
+            (place, vec![random.any() as u8])
+        })
+        .collect()
 }

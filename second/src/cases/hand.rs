@@ -9,7 +9,7 @@ use crate::rules::table::{self, SLOT};
 /// A sheet's buffer with room for a few orders.
 const ROOM: u32 = 2_000;
 /// How many questions `ask` has.
-pub const ENTRIES: usize = 7;
+pub const ENTRIES: usize = 10;
 
 pub struct Hand<'a> {
     table: Vec<u8>,
@@ -72,6 +72,10 @@ impl Hand<'_> {
         self.put(b'o', &order_payload(place, room))
     }
 
+    pub fn show_row(&mut self, place: u64, room: u16) -> Written {
+        self.put(b'q', &order_payload(place, room))
+    }
+
     pub fn book(&mut self, piece: &[u8]) -> Written {
         let _ = table::book(&mut self.table, piece);
         self.put(b'b', piece)
@@ -96,6 +100,9 @@ impl Hand<'_> {
             3 => self.sheet(ROOM),
             4 => self.book(&piece("A T10 5")),
             5 => self.book_all(3, &capture("E T4 1; A T10 5; A T10 5")),
+            6 => self.show_row(0, 49),
+            7 => self.book(&piece("E QA1 1")),
+            8 => self.book(&piece("C QA2 50")),
             // Even what is no piece is refused by its table first.
             _ => self.book(b"A"),
         }

@@ -1,4 +1,5 @@
-//! A long day for timing: a capture of as many lines as are wanted, all of them accepted, and no end of day.
+//! A long day for timing: a capture of as many lines as are wanted, all of them accepted, and no end of day. It is about
+//! orders, or about quote rows alone.
 
 use std::io::{self, Write};
 use std::mem;
@@ -38,6 +39,9 @@ const ROOTS: [&[u8; 6]; 5] = [b"MSFT  ", b"AAPL  ", b"SPY   ", b"QQQ   ", b"F   
 const STRIKE_STEP: u64 = 100_000;
 const PRICE_STEP: u64 = 500;
 
+/// The most contracts of a line about a quote: a hundred million lines about one row stay within 4,294,967,295.
+const MOST_QUOTED: usize = 40;
+
 /// A client counts its tokens, so many digits behind a prefix.
 struct Client {
     source: &'static [u8; 6],
@@ -68,6 +72,33 @@ pub fn write(seed: u64, count: u32, out: &mut impl Write) -> io::Result<()> {
 pub fn write_alone(seed: u64, count: u32, orders: usize, out: &mut impl Write) -> io::Result<()> {
     let shape = Shape { orders, pace: 1, founding: 1, least_size: MOST_CONTRACTS, most_taken: 1 };
     write_shape(shape, seed, count, out)
+}
+
+/// Writes a day of so many lines about so many quote rows, at least 1 and at most 128, and no order. An E makes each; the
+/// other lines execute or break a little of any row.
+pub fn write_quotes(seed: u64, count: u32, rows: usize, out: &mut impl Write) -> io::Result<()> {
+    let mut random = Random::new(seed);
+    let mut unbroken = vec![0; rows];
+    for number in 0..count as usize {
+        let row = if number < rows { number } else { random.below(rows) };
+        let left = &mut unbroken[row];
+        let breaks = *left > 0 && random.once_in(10);
+        let contracts = 1 + random.below(if breaks { MOST_QUOTED.min(*left) } else { MOST_QUOTED });
+        *left = if breaks { *left - contracts } else { *left + contracts };
+        out.write_all(&quote_line(if breaks { b"C" } else { b"E" }, row, contracts))?;
+    }
+    Ok(())
+}
+
+/// A line about the quote whose id is the row's number.
+fn quote_line(letter: &[u8; 1], row: usize, contracts: usize) -> [u8; LINE] {
+    let mut record = Record::of_line(EXECUTED.as_bytes());
+    record.set(TYPE, letter);
+    record.set(TOKEN, &left(&format!("{row:016X}"), 20));
+    record.set_number(CONTRACTS, contracts as u64);
+    let mut line = [0; LINE];
+    line::write(record.stored(), &mut line).expect("the line is lawful");
+    line
 }
 
 fn write_shape(shape: Shape, seed: u64, count: u32, out: &mut impl Write) -> io::Result<()> {

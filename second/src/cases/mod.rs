@@ -6,6 +6,7 @@ pub mod damages;
 pub mod hand;
 pub mod lines;
 pub mod long_day;
+pub mod quotes;
 pub mod random;
 pub mod records;
 pub mod set;

@@ -62,7 +62,7 @@ fn by_chance(count: u64, random: &mut Random, out: &mut impl Write) -> Written {
 
 /// Kinds and payloads that are no case. None of them ends the run.
 fn bad_cases(line: &[u8], out: &mut impl Write) -> Written {
-    for kind in *b"nriwsfktpedlobahxyzc?Z\0\xFF" {
+    for kind in *b"nriwsfktpedloqbahxyzc?Z\0\xFF" {
         for length in [0, 1, 2, 7, 8, 9, 10, 138, 139, 140, 141, 4_096] {
             put(out, kind, &vec![0; length])?;
         }

@@ -1,8 +1,8 @@
 //! Lines made by hand: a line of the papers with other contents, and the papers' shorthand for a capture.
 
 use crate::cases::contents;
-use crate::rules::day::Key;
 use crate::rules::fields::{CR_LF, FIELDS};
+use crate::rules::key::Key;
 
 /// A line of 001's own samples where they fit their fields, and of 01's vectors elsewhere.
 #[rustfmt::skip]
@@ -39,7 +39,8 @@ pub fn untraded(letter: &str, changes: &[(usize, &str)]) -> Vec<u8> {
     with(&line, changes)
 }
 
-/// The pieces of the papers' shorthand: `A T1 100; U T2 for T1, 60; end of day`.
+/// The pieces of the papers' shorthand: `A T1 100; U T2 for T1, 60; end of day`. A token of Q and some of the characters
+/// 0 to 9 and A to F is the SQF id that ends in these and has 0 before them: `E QA1 5`.
 pub fn capture(words: &str) -> Vec<u8> {
     words.split("; ").flat_map(piece).collect()
 }
@@ -57,13 +58,19 @@ pub fn piece(words: &str) -> Vec<u8> {
 
 /// A line of Source ABCD01, of one series and side.
 fn line(letter: &str, token: &str, elder: &str, contracts: &str) -> Vec<u8> {
-    let (token, elder, contracts) = (format!("{token:<20}"), format!("{elder:<20}"), format!("{contracts:>6}"));
+    let (token, elder, contracts) = (padded(token), padded(elder), format!("{contracts:>6}"));
     let changes = [(2, letter), (11, &token), (12, &elder), (15, &contracts)];
     if matches!(letter, "E" | "C") {
         executed(&changes)
     } else {
         untraded(letter, &changes)
     }
+}
+
+/// A token of the shorthand in its twenty bytes.
+pub fn padded(token: &str) -> String {
+    let token = token.strip_prefix('Q').map_or_else(|| token.to_string(), |id| format!("{id:0>16}"));
+    format!("{token:<20}")
 }
 
 /// A piece of the shorthand with another content in some fields.
@@ -75,6 +82,6 @@ pub fn other(words: &str, changes: &[(usize, &str)]) -> Vec<u8> {
 pub fn key(token: &str) -> Key {
     let mut key = [b' '; 26];
     key[..6].copy_from_slice(b"ABCD01");
-    key[6..][..token.len()].copy_from_slice(token.as_bytes());
+    key[6..].copy_from_slice(padded(token).as_bytes());
     key
 }

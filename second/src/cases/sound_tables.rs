@@ -1,10 +1,11 @@
 //! Sound tables to make cases of: one with every kind of order, full ones and random ones.
 
-use crate::cases::contents::lawful_line;
+use crate::cases::contents::{lawful_line, with};
 use crate::cases::random::Random;
-use crate::cases::shorthand::{capture, other};
+use crate::cases::shorthand::{capture, other, padded};
 use crate::rules::day::{Day, Figures, Order, MOST};
-use crate::rules::fields::LF;
+use crate::rules::fields::{places, LF, TOKEN};
+use crate::rules::quotes::{Quote, Row, Rows, MOST_ROWS};
 use crate::rules::table::{self, TABLE};
 
 /// A family of three (T1, T3, T4), one of two (T5, T6), and single orders with all executed (T7), all
@@ -15,12 +16,24 @@ const RICH: [&str; 2] = [
      U T6 for T5, 999999; A T7 1; E T7 1; A T8 12; X T8 12; A T9 50",
 ];
 pub const RICH_ORDERS: usize = 9;
+/// Quote rows alike but for the side, the series or the Source; and last a row of another id, of which nothing is broken.
+const RICH_QUOTES: [(&str, &[(usize, &str)]); 6] = [
+    ("E QA1 30", &[]),
+    ("E QA1 7", &[(14, "S")]),
+    ("E QA1 8", &[(21, "205751")]),
+    ("C QA1 10", &[]),
+    ("E QA1 9", &[(10, "ABCD02")]),
+    ("E QA2 50", &[]),
+];
+pub const RICH_ROWS: usize = 5;
+/// How many quote rows a random table has.
+const ROW_COUNTS: [usize; 7] = [0, 0, 1, 5, 40, MOST_ROWS - 1, MOST_ROWS];
 
 pub fn junk(random: &mut Random, length: usize) -> Vec<u8> {
     (0..length).map(|_| random.next() as u8).collect()
 }
 
-/// The day's table, its free slots holding any bytes.
+/// The day's table, its free slots and rows holding any bytes.
 pub fn stored(day: &Day, random: &mut Random) -> Vec<u8> {
     let mut table = junk(random, TABLE);
     table::store(day, &mut table);
@@ -38,17 +51,25 @@ pub fn day_of(text: &[u8]) -> Day {
 
 pub fn rich_table(random: &mut Random) -> Vec<u8> {
     let unlike = other("A T2 7", &[(10, "AB D02"), (14, "S"), (16, "X     "), (20, "E"), (21, "000001")]);
-    stored(&day_of(&[capture(RICH[0]), unlike, capture(RICH[1])].concat()), random)
+    let quotes: Vec<_> = RICH_QUOTES.iter().flat_map(|(words, changes)| other(words, changes)).collect();
+    stored(&day_of(&[capture(RICH[0]), unlike, quotes, capture(RICH[1])].concat()), random)
 }
 
-/// A table of 512 orders.
+/// A table of 512 orders and 128 quote rows.
 pub fn full_table(random: &mut Random) -> Vec<u8> {
-    stored(&random_day(MOST, random), random)
+    stored(&random_day_with(MOST, MOST_ROWS, random), random)
 }
 
-/// A sound table of so many orders that no lines need lead to: elders anywhere earlier and of any
-/// side and series, any figures that add up, and now and then a key that is there already.
+/// A sound table of so many orders, and of any number of quote rows.
 pub fn random_day(orders: usize, random: &mut Random) -> Day {
+    let rows = *random.pick(&ROW_COUNTS);
+    random_day_with(orders, rows, random)
+}
+
+/// A sound table that no lines need lead to: elders anywhere earlier and of any side and series, any figures that add
+/// up, and now and then a key that is there already, in an order or in a quote row.
+pub fn random_day_with(orders: usize, rows: usize, random: &mut Random) -> Day {
+    let rows = random_rows(rows, random);
     let founding = *random.pick(&[1, 2, 8, 64]);
     let mut all: Vec<Order> = Vec::with_capacity(orders);
     let mut youngest: Vec<usize> = Vec::new();
@@ -57,6 +78,9 @@ pub fn random_day(orders: usize, random: &mut Random) -> Day {
         order.figures = spread(order.figures.size, random);
         if place > 0 && random.once_in(32) {
             order.key = random.pick(&all).key;
+        }
+        if !rows.is_empty() && random.once_in(32) {
+            order.key = random.pick(&rows).quote.key;
         }
         if place > 0 && !random.once_in(founding) {
             let elder = youngest.swap_remove(random.below(youngest.len()));
@@ -68,7 +92,54 @@ pub fn random_day(orders: usize, random: &mut Random) -> Day {
         youngest.push(place);
         all.push(order);
     }
-    Day::of(all, random.once_in(24))
+    let rows = Rows::of(rows).expect("no two are alike");
+    Day::of(all, rows, random.once_in(24))
+}
+
+/// Quote rows of which no two are alike. Half of them agree with an earlier one in all but the side, the Source, the id
+/// or the series.
+fn random_rows(count: usize, random: &mut Random) -> Vec<Row> {
+    let mut rows: Vec<Row> = Vec::with_capacity(count);
+    while rows.len() < count {
+        let mut quote = random_quote(random);
+        if !rows.is_empty() && random.once_in(2) {
+            let earlier = random.pick(&rows).quote;
+            quote = match random.below(4) {
+                0 => Quote { side: quote.side, ..earlier },
+                1 => Quote { series: quote.series, ..earlier },
+                2 => Quote {
+                    key: with(&earlier.key, 0..6, quote.source()).try_into().expect("as long as before"),
+                    ..earlier
+                },
+                _ => Quote {
+                    key: with(&earlier.key, 6..26, quote.token()).try_into().expect("as long as before"),
+                    ..earlier
+                },
+            };
+        }
+        if rows.iter().all(|row| row.quote != quote) {
+            let executed = executed(random);
+            let broken = random.below(executed as usize + 1) as u32;
+            rows.push(Row { quote, executed, broken });
+        }
+    }
+    rows
+}
+
+fn random_quote(random: &mut Random) -> Quote {
+    let line = lawful_line(b'E', random);
+    let id = padded(&format!("Q{:X}", random.any()));
+    day_of(&with(&line, places(TOKEN, TOKEN), id.as_bytes())).rows()[0].quote
+}
+
+/// Anything that a row may have executed, often the least or near the most.
+fn executed(random: &mut Random) -> u32 {
+    match random.below(4) {
+        0 => 1,
+        1 => u32::MAX - random.below(3) as u32,
+        2 => u32::MAX - random.below(2_000_000) as u32,
+        _ => random.between(1, u32::MAX.into()) as u32,
+    }
 }
 
 /// Half the time all of a size is open, else it is cut into four parts at any places.

@@ -4,15 +4,20 @@ use std::io::{self, Write};
 
 use crate::cases::contents::{self, lawful_content, lawful_line, EDGES};
 use crate::cases::random::Random;
-use crate::rules::day::{Day, Figures, Key, Order, Series, MOST, MOST_CONTRACTS};
+use crate::rules::day::{Day, Figures, Order, MOST, MOST_CONTRACTS};
 use crate::rules::fields::{
-    places, BODY, CONTRACTS, CR_LF, FIELDS, LF, LINE, REPLACED_TOKEN, ROOT, SIDE, SOURCE, STRIKE,
+    places, BODY, CONTRACTS, CR_LF, FIELDS, LF, LINE, REPLACED_TOKEN, ROOT, SIDE, SOURCE, STRIKE, TOKEN,
 };
+use crate::rules::key::{Key, Series};
+use crate::rules::quotes::{Quote, Row, MOST_ROWS};
 
 /// One of them with an inner space, one nearly all padding.
 const SOURCES: [&[u8; 6]; 4] = [b"ABCD01", b"ABCD02", b"A B~! ", b"A     "];
 /// For each Source, and more than a table holds, so that a new one is soon found.
 const TOKENS: usize = 700;
+/// How many of the tokens in the form of an SQF id the quotes have, so that many rows share an id, and some of these
+/// become orders.
+const IDS: usize = 24;
 /// The longest piece of a capture, or little less.
 const LONGEST: usize = 100_000;
 /// The fields in which a line must agree with its order.
@@ -35,12 +40,14 @@ pub struct Stream {
     /// How many pieces were written, and how many there are to be.
     pieces: usize,
     count: usize,
-    /// How many orders the day had before.
+    /// How many orders and quote rows the day had before.
     given: usize,
+    given_rows: usize,
     /// How long a piece of rubbish is to be at most, or little more.
     longest: usize,
-    /// After how many pieces the table is to be full.
+    /// After how many pieces the table is to be full of orders, and of quote rows.
     full: usize,
+    full_rows: usize,
     /// One new order in so many begins a family.
     founding: usize,
     /// After how many pieces the day is to end.
@@ -70,6 +77,7 @@ impl Stream {
     pub fn on(day: Day, seed: u64, count: usize, longest: usize) -> Stream {
         let mut random = Random::new(seed);
         let full = 1 + *random.pick(&[count / 8, count / 2, count, count * 2]);
+        let full_rows = 1 + *random.pick(&[count / 4, count / 2, count, count * 8]);
         let founding = *random.pick(&[2, 8, 64]);
         let end = match random.below(8) {
             0 => random.below(count + 1),
@@ -78,8 +86,22 @@ impl Stream {
         };
         let series = alike_series(&mut random);
         let contents = FIELDS.iter().map(contents::contents).collect();
-        let (given, last) = (day.orders().len(), Vec::new());
-        Stream { random, day, pieces: 0, count, given, longest, full, founding, end, series, contents, last }
+        Stream {
+            random,
+            pieces: 0,
+            count,
+            given: day.orders().len(),
+            given_rows: day.rows().len(),
+            day,
+            longest,
+            full,
+            full_rows,
+            founding,
+            end,
+            series,
+            contents,
+            last: Vec::new(),
+        }
     }
 
     /// The day after the pieces so far.
@@ -114,7 +136,8 @@ impl Stream {
             5..=7 => self.rubbish(),
             8 => self.last.clone(),
             9 => CR_LF.to_vec(),
-            10..=24 => self.refused(),
+            10..=23 => self.refused(),
+            24..=25 => self.taken_over().unwrap_or_else(|| self.lawful()),
             _ => self.lawful(),
         };
         // Most days are to last: none ends by chance.
@@ -127,14 +150,54 @@ impl Stream {
 
     // Lawful lines.
 
-    /// A line that is booked unless the day is over or no order is left for it.
+    /// A line that is booked unless the day is over or no order and no quote row is left for it.
     fn lawful(&mut self) -> Vec<u8> {
         let orders = self.day.orders().len();
         let due = self.given + self.pieces * (MOST - self.given) / self.full;
         // Half the lines are events even when orders are long due.
-        let grows = orders == 0 || orders < MOST && orders <= due && self.random.once_in(2);
-        self.last = if grows { self.new_order() } else { self.event() };
+        let grows = orders < MOST && orders <= due && self.random.once_in(2);
+        self.last = match self.random.below(3) {
+            _ if grows => self.new_order(),
+            0 => self.quote_event(),
+            _ => self.event(),
+        };
         self.last.clone()
+    }
+
+    /// An E that makes a quote row where one is due, else an E or C of a row.
+    fn quote_event(&mut self) -> Vec<u8> {
+        let rows = self.day.rows().len();
+        let due = self.given_rows + self.pieces * (MOST_ROWS - self.given_rows) / self.full_rows;
+        if rows < MOST_ROWS && rows <= due {
+            let (quote, contracts) = (self.quote(), self.size());
+            return self.quote_line(b'E', &quote, contracts);
+        }
+        let letter = *self.random.pick(b"EEEC");
+        let can_go = |row: &Row| if letter == b'C' { row.executed - row.broken } else { u32::MAX - row.executed };
+        let Some(row) = self.row(|row| can_go(row) > 0) else { return self.event() };
+        let contracts = if letter == b'C' { self.part(can_go(&row)) } else { self.size() };
+        self.quote_line(letter, &row.quote, contracts.min(can_go(&row)).min(MOST_CONTRACTS))
+    }
+
+    /// A quote in the form of the rows that this stream makes, with or without a row.
+    fn quote(&mut self) -> Quote {
+        let source = *self.random.pick(&SOURCES);
+        let key = key(source, &token(5 * self.random.below(IDS) + 3));
+        Quote { key, side: *self.random.pick(b"BS"), series: *self.random.pick(&self.series) }
+    }
+
+    /// A row that is as wanted, and whose key is in no order.
+    fn row(&mut self, wanted: impl Fn(&Row) -> bool) -> Option<Row> {
+        let rows = self.day.rows();
+        let (older, younger) = rows.split_at(self.random.below(rows.len() + 1));
+        let alone = |row: &&Row| wanted(row) && self.day.place(&row.quote.key).is_none();
+        younger.iter().chain(older).find(alone).cloned()
+    }
+
+    fn quote_line(&mut self, letter: u8, quote: &Quote, contracts: u32) -> Vec<u8> {
+        let mut line = self.line_with(letter, &quote.key, &quote.series, contracts);
+        lay(&mut line, SIDE, &[quote.side]);
+        line
     }
 
     fn new_order(&mut self) -> Vec<u8> {
@@ -191,10 +254,7 @@ impl Stream {
     /// A key of a Source that is not in the table.
     fn unknown_key(&mut self, source: &[u8]) -> Key {
         loop {
-            let token = token(self.random.below(TOKENS));
-            let mut key = [0; 26];
-            key[..6].copy_from_slice(source);
-            key[6..].copy_from_slice(&token);
+            let key = key(source, &token(self.random.below(TOKENS)));
             if self.day.place(&key).is_none() {
                 return key;
             }
@@ -226,8 +286,11 @@ impl Stream {
 
     // Lines and pieces that are not.
 
-    /// A line that reads, and breaks a rule of booking from 7 to 12.
+    /// A line that reads, and mostly breaks a rule of booking from 7 to 13.
     fn refused(&mut self) -> Vec<u8> {
+        if self.random.once_in(4) {
+            return self.refused_quote();
+        }
         let Some(order) = self.order(|_| true) else { return self.new_order() };
         let unknown = Order { key: self.unknown_key(order.source()), ..order.clone() };
         let letter = *self.random.pick(b"EXCR");
@@ -242,6 +305,7 @@ impl Stream {
             // One token named twice.
             2 => self.replacement(order.key, &order, contracts),
             3 => self.replacement(unknown.key, &unknown, contracts),
+            // An E of an SQF id makes a row.
             4 => self.line(letter, &unknown, 1),
             5 => {
                 // Its token under another Source.
@@ -281,6 +345,70 @@ impl Stream {
                 self.line(b'C', &order, MOST_CONTRACTS.min(left + 1))
             }
         }
+    }
+
+    /// The same about quotes and their rows.
+    fn refused_quote(&mut self) -> Vec<u8> {
+        let quote = self.quote();
+        let Some(row) = self.row(|_| true) else { return self.quote_line(b'C', &quote, 1) };
+        let contracts = self.size();
+        match self.random.below(9) {
+            // Only E and C are about a row.
+            0 => {
+                let letter = *self.random.pick(b"XR");
+                self.quote_line(letter, &row.quote, 1)
+            }
+            1 => {
+                let mut line = self.quote_line(b'U', &row.quote, contracts);
+                let new = self.unknown_key(row.quote.source());
+                lay(&mut line, REPLACED_TOKEN, row.quote.token());
+                lay(&mut line, SOURCE, &new);
+                line
+            }
+            // With no row, and with no row left.
+            2 => self.quote_line(b'C', &quote, 1),
+            3 | 4 => self.quote_line(b'E', &quote, contracts),
+            5 => self.quote_line(b'C', &row.quote, MOST_CONTRACTS.min((row.executed - row.broken).saturating_add(1))),
+            // The most that a row may have executed, or one more.
+            6 => {
+                let Some(row) = self.row(|row| u32::MAX - row.executed < MOST_CONTRACTS) else {
+                    return self.quote_line(b'C', &row.quote, MOST_CONTRACTS);
+                };
+                let left = u32::MAX - row.executed + self.random.below(2) as u32;
+                self.quote_line(b'E', &row.quote, left.max(1))
+            }
+            // Another side or series has another row.
+            7 => {
+                let letter = *self.random.pick(b"EC");
+                let line = self.quote_line(letter, &row.quote, 1);
+                self.disagreeing(line)
+            }
+            _ => {
+                let letter = *self.random.pick(b"EC");
+                let mut line = self.quote_line(letter, &row.quote, 1);
+                self.spoil_id(&mut line);
+                line
+            }
+        }
+    }
+
+    /// Makes a line's SQF id a token that is none, now and then another id.
+    fn spoil_id(&mut self, line: &mut [u8]) {
+        let at = FIELDS[TOKEN - 1].at;
+        let place = if self.random.once_in(4) { 15 } else { self.random.below(20) };
+        line[at + place] = *self.random.pick(if place == 0 { b"afGg/:@`" } else { b"afGg/:@` 0F" });
+    }
+
+    /// A line about a quote row whose key an order has now: it is the order's.
+    fn taken_over(&mut self) -> Option<Vec<u8>> {
+        let rows = self.day.rows();
+        let taken: Vec<_> = rows.iter().filter(|row| self.day.place(&row.quote.key).is_some()).collect();
+        if taken.is_empty() {
+            return None;
+        }
+        let quote = self.random.pick(&taken).quote;
+        let letter = *self.random.pick(b"EEECX");
+        Some(self.quote_line(letter, &quote, 1))
     }
 
     /// The line with another side, or with another content in one field of its series.
@@ -368,6 +496,13 @@ fn token(number: usize) -> Vec<u8> {
         _ => format!("~{number:>9} a"),
     };
     contents::left(&text, 20)
+}
+
+fn key(source: &[u8], token: &[u8]) -> Key {
+    let mut key = [0; 26];
+    key[..6].copy_from_slice(source);
+    key[6..].copy_from_slice(token);
+    key
 }
 
 /// Puts a content into the line from the front of a field on.

@@ -1,17 +1,20 @@
-//! Cases about lent tables: lengths, every refusal of booking, sheets, and random traffic.
+//! Cases about lent tables: lengths, every refusal of booking, quote rows, sheets, and random traffic.
 
 use crate::cases::case::{order_payload, patch_payload, room_payload, Written};
-use crate::cases::contents::{broken, with};
+use crate::cases::contents::{broken, field, left, with};
 use crate::cases::damages;
 use crate::cases::hand::{Hand, ENTRIES};
 use crate::cases::random::Random;
 use crate::cases::shorthand::{capture, key, other, piece, OTHERS};
-use crate::cases::sound_tables::{day_of, full_table, junk, random_day, rich_table, stored, RICH_ORDERS};
+use crate::cases::sound_tables::{
+    day_of, full_table, junk, random_day, random_day_with, rich_table, stored, RICH_ORDERS, RICH_ROWS,
+};
 use crate::cases::stream::Stream;
 use crate::rules::day::{Day, MOST};
-use crate::rules::fields::{CR_LF, FIELDS, LF, LINE};
+use crate::rules::fields::{CR_LF, FIELDS, LF, LINE, TOKEN};
+use crate::rules::quotes::MOST_ROWS;
 use crate::rules::sheet;
-use crate::rules::table::{self, slot, HEADER, SLOT, TABLE};
+use crate::rules::table::{self, row, slot, HEADER, ROW, ROW_BROKEN, ROW_EXECUTED, SLOT, TABLE};
 use crate::rules::trial::{LONGEST, LONGEST_TABLE, MOST_ANSWERS, WIDEST_SHEET};
 
 /// How many tables the random traffic is booked on, and how many orders they begin with.
@@ -30,6 +33,9 @@ pub fn bounds(random: &mut Random, hand: &mut Hand) -> Written {
     bookings(random, hand)?;
     bookings_when_full(random, hand)?;
     repeated_keys(random, hand)?;
+    quotes(random, hand)?;
+    quotes_when_full(random, hand)?;
+    sums_of_quotes(random, hand)?;
     texts_at_once(random, hand)?;
     sheets(random, hand)?;
     bad_cases(random, hand)
@@ -51,7 +57,9 @@ pub fn by_chance(count: u64, random: &mut Random, hand: &mut Hand) -> Written {
 /// A sound table cut short or made longer: every entry, and making the empty table.
 fn lengths(random: &mut Random, hand: &mut Hand) -> Written {
     let rich = rich_table(random);
-    for length in [0, 1, 7, HEADER, TABLE - SLOT, TABLE - 1, TABLE, TABLE + 1, TABLE + SLOT, LONGEST_TABLE] {
+    let orders_alone = row(0).start;
+    let short = [0, 1, 7, HEADER, orders_alone - 1, orders_alone, orders_alone + 1, TABLE - ROW, TABLE - 1];
+    for length in short.into_iter().chain([TABLE, TABLE + 1, TABLE + ROW, TABLE + SLOT, LONGEST_TABLE]) {
         hand.name(&format!("a table of {length} bytes"))?;
         let mut table = rich.clone();
         table.resize(length, 0);
@@ -72,8 +80,8 @@ fn any_bytes(random: &mut Random, hand: &mut Hand) -> Written {
         hand.take(junk(random, TABLE))?;
         hand.check()?;
         hand.ask_all()?;
-        for count in [1, 2, 9, 511, 512] {
-            hand.patch(0, &[count as u8, (count >> 8) as u8, 0, 0, 0, 0, 0, 0])?;
+        for (count, rows) in [(1, 0), (2, 1), (9, 0), (511, 128), (512, 0), (0, 1), (0, 128), (0, 129)] {
+            hand.patch(0, &[count as u8, (count >> 8) as u8, 0, 0, 0, rows, 0, 0])?;
             hand.check()?;
             hand.ask(random.below(ENTRIES))?;
         }
@@ -84,12 +92,15 @@ fn any_bytes(random: &mut Random, hand: &mut Hand) -> Written {
         hand.check()?;
         hand.ask_all()?;
         hand.show(0, 300)?;
+        hand.show_row(0, 300)?;
     }
     for byte in [0, 1, b' ', b'A', 0xFF] {
         hand.take(vec![byte; TABLE])?;
         hand.check()?;
         hand.ask_all()?;
         hand.patch(0, &[1, 0, 0, 0, 0, 0, 0, 0])?;
+        hand.check()?;
+        hand.patch(0, &[0, 0, 0, 0, 0, 1, 0, 0])?;
         hand.check()?;
         hand.make_empty()?;
         hand.ask_all()?;
@@ -99,7 +110,7 @@ fn any_bytes(random: &mut Random, hand: &mut Hand) -> Written {
 
 // Booking.
 
-/// Books pieces one after another on the table in hand, shows the orders, and puts all back.
+/// Books pieces one after another on the table in hand, shows the orders and the quote rows, and puts all back.
 fn booked(name: &str, pieces: &[Vec<u8>], hand: &mut Hand) -> Written {
     let before = hand.table().to_vec();
     hand.name(name)?;
@@ -110,6 +121,9 @@ fn booked(name: &str, pieces: &[Vec<u8>], hand: &mut Hand) -> Written {
     hand.sheet(2_000)?;
     for place in 0..=RICH_ORDERS as u64 + 1 {
         hand.show(place, 80)?;
+    }
+    for place in 0..=RICH_ROWS as u64 + 1 {
+        hand.show_row(place, 49)?;
     }
     hand.restore(&before)
 }
@@ -210,6 +224,106 @@ fn repeated_keys(random: &mut Random, hand: &mut Hand) -> Written {
     Ok(())
 }
 
+// Quote rows.
+
+/// Ids as tokens and tokens that are none, rows unlike in one thing, their refusals, and ids that become orders.
+fn quotes(random: &mut Random, hand: &mut Hand) -> Written {
+    hand.take(rich_table(random))?;
+    for words in [
+        "E QA1 1; E QA2 1; E QA3 999999; E QA3 999999; C QA3 999999; C QA3 999999; C QA3 1; E QA3 1; C QA3 2; C QA3 1",
+        "C QA3 1; E QA3 1; C QA3 2; C QA3 1; C QA3 1",
+        "C QA1 21; C QA1 20; C QA1 1; C QA2 51; C QA2 50; C QA2 1",
+        "X QA1 1; R QA1 1; U T10 for QA1, 5; X QA9 1; R QA9 1; U T10 for QA9, 5; U QA9 for QA9, 5; U QA1 for QA1, 5",
+        "A QA1 10; E QA1 11; E QA1 10; E QA1 1; C QA1 11; C QA1 10; C QA1 1; X QA1 1; R QA1 1; A QA1 5; E QA2 1",
+        "U QA1 for T9, 10; E QA1 4; X QA1 1; R QA1 1; U T10 for QA1, 3; E QA1 1; C QA1 5; C QA1 4; E T10 3; E QA2 1",
+        "A QA1 0; E QA1 1; A T1 5; E QA1 1; U QA1 for T99, 5; E QA1 1; U QA1 for T1, 5; E QA1 1",
+        "A QA9 5; E QA9 6; E QA9 5; E QA9 1; C QA9 6; A QA9 1",
+        "E QFEDCBA9876543210 3; C QFEDCBA9876543210 1; A QFEDCBA9876543210 3; C QFEDCBA9876543210 1; E QFEDCBA9876543210 2",
+        "end of day; E QA1 1; C QA1 1; E QA9 1; C QA9 1; A QA1 1",
+    ] {
+        booked(words, &pieces(words), hand)?;
+    }
+    for words in ["E QA1 1", "C QA1 1", "E QA2 1", "C QA2 1"] {
+        booked(&format!("other rows: {words}"), &OTHERS.map(|change| other(words, &[change])), hand)?;
+        booked(&format!("fields broken: {words}"), &broken_fields(words), hand)?;
+    }
+    let taken = [vec![piece("A QA1 10")], OTHERS.map(|change| other("E QA1 1", &[change])).to_vec()].concat();
+    booked("an order's other sides and series are 9, rows or not", &taken, hand)?;
+    let sources: Vec<_> = ["E QA1 1", "C QA1 1", "A QA1 4", "E QA1 1", "C QA1 2", "C QA1 1"]
+        .into_iter()
+        .flat_map(|words| ["ABCD02", "ABCD03", "AB D02"].map(|source| other(words, &[(10, source)])))
+        .collect();
+    booked("one id under other Sources", &sources, hand)?;
+    no_ids(hand)
+}
+
+fn broken_fields(words: &str) -> Vec<Vec<u8>> {
+    FIELDS.iter().map(|field| with(&piece(words), field.places(), &broken(field))).collect()
+}
+
+/// Tokens that are no id, or barely one, on an E and on a C.
+fn no_ids(hand: &mut Hand) -> Written {
+    let id = b"00000000000000A1    ";
+    let spoiled: Vec<_> = (0..20)
+        .flat_map(|at| b"/09:@AFG`afg ".iter().map(move |byte| with(id, at..at + 1, &[*byte])))
+        .chain(["T1", "0123456789ABCDE", "0123456789ABCDEF0", "0123456789abcdef", "0"].map(|token| left(token, 20)))
+        .collect();
+    let before = hand.table().to_vec();
+    for letter in ["E", "C"] {
+        hand.name(&format!("tokens that are no id, or barely one: {letter}"))?;
+        for token in &spoiled {
+            hand.book(&with(&piece(&format!("{letter} QA1 1")), field(TOKEN).places(), token))?;
+            hand.restore(&before)?;
+        }
+    }
+    Ok(())
+}
+
+/// A row for each of so many ids.
+fn ids(count: usize) -> Vec<u8> {
+    (1..=count).flat_map(|number| piece(&format!("E Q{number:X} {number}"))).collect()
+}
+
+/// Row 128 and row 129, in tables with no order, a few and 512.
+fn quotes_when_full(random: &mut Random, hand: &mut Hand) -> Written {
+    let orders: Vec<_> = (1..=MOST).flat_map(|number| piece(&format!("A T{number} 100"))).collect();
+    for (name, lines) in [("no order", vec![]), ("an order", piece("A T1 5")), ("512 orders", orders)] {
+        hand.take(stored(&day_of(&[lines, ids(MOST_ROWS - 1)].concat()), random))?;
+        for words in [
+            "E Q80 5; E Q81 5; C Q81 1; E Q80 6; C Q80 11; C Q1 1; C Q1 1; E Q1 1; X Q81 1; A Q81 9; E Q81 9; A Q82 1; E Q81 1",
+            "C Q80 5; E QFFFFFFFFFFFFFFFF 5; E Q80 5; end of day; E Q81 5; E Q1 1",
+        ] {
+            booked(&format!("{name}: {words}"), &pieces(words), hand)?;
+        }
+        let others = OTHERS.map(|change| other("E Q1 1", &[change])).to_vec();
+        booked(&format!("{name}: another side or series needs a row"), &others, hand)?;
+        hand.book(&piece("E Q80 5"))?;
+        hand.book_all(4, &capture("E Q81 5; E Q7F 1; C Q80 5; E Q82 5"))?;
+        for place in [0, 126, 127, 128, 129, 255, 256] {
+            hand.show_row(place, 49)?;
+        }
+        hand.check()?;
+        hand.sheet(WIDEST_SHEET as u32)?;
+    }
+    Ok(())
+}
+
+/// Lent rows whose executed is near 2 to the 32.
+fn sums_of_quotes(random: &mut Random, hand: &mut Hand) -> Written {
+    hand.take(rich_table(random))?;
+    for (executed, broken) in
+        [(6, 0), (5, 6), (1, 1), (0, 0), (0, 999_999), (999_999, 1), (999_998, 999_999), (1 << 31, 0)]
+    {
+        let figures = [u32::MAX - executed, u32::MAX - executed - broken];
+        let at = row(0).start;
+        hand.patch(at + ROW_EXECUTED, &figures[0].to_le_bytes())?;
+        hand.patch(at + ROW_BROKEN, &figures[1].to_le_bytes())?;
+        let words = "E QA1 7; E QA1 6; E QA1 5; E QA1 1; C QA1 7; C QA1 6; C QA1 1; E QA1 999999; C QA1 999999; E QA1 1; C QA1 1";
+        booked(&format!("{figures:?}: {words}"), &pieces(words), hand)?;
+    }
+    Ok(())
+}
+
 // Texts in one call.
 
 /// How many answers: none, one, fewer than the text has pieces, as many, and more.
@@ -223,20 +337,25 @@ fn rooms(text: &[u8]) -> [u16; 6] {
 fn texts_at_once(random: &mut Random, hand: &mut Hand) -> Written {
     let line = piece("A T10 5");
     let lines = capture("E T9 1; E T9 50; A T10 5; U T11 for T10, 6; A T10 7; E T99 1; X T11 7; R T11 1; C T9 1");
+    let quotes = capture("E QA1 1; C QA1 22; C QA1 21; E QA9 5; A QA9 5; E QA9 6; E QA9 5; C QA8 1; E QA8 9; X QA8 1");
     let many: Vec<_> = (20..40).flat_map(|number| piece(&format!("A T{number} {number}"))).collect();
     let long = [line.clone(), vec![b'x'; 3_000], CR_LF.to_vec(), line[..LINE - 2].repeat(3), lines.clone()].concat();
     let cut: Vec<_> = [1, 2, 139].map(|left| [&lines[..], &piece("A T12 5")[..left]].concat()).into();
     let ended = [lines.clone(), CR_LF.to_vec(), lines.clone(), CR_LF.to_vec()].concat();
     let foreign = with(&lines, LINE + 40..LINE + 41, b"\x7F");
     let short: [&[u8]; 6] = [b"", b"\n", b"x", CR_LF, b"\n\n\r\n\n", &[LF; 990]];
-    let texts: Vec<_> =
-        short.map(<[u8]>::to_vec).into_iter().chain([line, lines, many, long, ended, foreign]).chain(cut).collect();
+    let texts: Vec<_> = short
+        .map(<[u8]>::to_vec)
+        .into_iter()
+        .chain([line, lines, quotes, many, long, ended, foreign])
+        .chain(cut)
+        .collect();
     let rich = rich_table(random);
     let mut damaged = rich.clone();
     damaged[4] = 2;
     let tables = [
         ("the rich table", rich.clone()),
-        ("a table of 505 orders", stored(&random_day(MOST - 7, random), random)),
+        ("a table of 505 orders", stored(&random_day_with(MOST - 7, MOST_ROWS - 1, random), random)),
         ("a full table", full_table(random)),
         ("the empty table", stored(&Day::default(), random)),
         ("a damaged table", damaged),
@@ -265,12 +384,15 @@ fn one_after_another(text: &[u8], hand: &mut Hand) -> Written {
 
 // Sheets.
 
-/// Buffers around the length of the sheet: of no order, a few, many single ones, long families.
+/// Buffers around the length of the sheet: of no order, a few, many single ones, long families; with quote rows and
+/// without.
 fn sheets(random: &mut Random, hand: &mut Hand) -> Written {
     let empty = stored(&Day::default(), random);
     let rich = rich_table(random);
     let full = [full_table(random), full_table(random), full_table(random)];
-    for table in [empty, rich].into_iter().chain(full) {
+    let quotes = stored(&day_of(&ids(MOST_ROWS)), random);
+    let orders = stored(&random_day_with(9, 0, random), random);
+    for table in [empty, rich, quotes, orders].into_iter().chain(full) {
         let length = table::load(&table).map_or(0, |day| sheet::text(&day).len()) as u32;
         hand.name(&format!("a sheet of {length} bytes"))?;
         hand.take(table)?;
@@ -306,6 +428,14 @@ fn bad_cases(random: &mut Random, hand: &mut Hand) -> Written {
     }
     for length in [0, 1, 8, 9, 11, 12, 90] {
         hand.put(b'o', &vec![0; length])?;
+        hand.put(b'q', &vec![0; length])?;
+    }
+    for room in [0, 1, 48, 49, 50, 299, 300, 301, 305, 65_535] {
+        hand.put(b'q', &order_payload(4, room))?;
+    }
+    for place in [4, 5, 127, 128, 260, 1 << 16, 1 << 32, (1 << 32) + 4, 1 << 63, u64::MAX] {
+        hand.show_row(place, 48)?;
+        hand.show_row(place, 49)?;
     }
     for room in [0, 1, 79, 80, 81, 299, 300, 301, 336, 65_535] {
         hand.put(b'o', &order_payload(8, room))?;
@@ -374,7 +504,12 @@ fn in_calls(text: &[u8], random: &mut Random, hand: &mut Hand) -> Written {
 fn question(day: &Day, random: &mut Random, hand: &mut Hand) -> Written {
     match random.below(32) {
         0..=13 => hand.look_up(&some_key(day, random)),
-        14..=27 => {
+        14..=20 => {
+            let place = random.below(day.rows().len() + 2) as u64;
+            let room = if random.once_in(8) { *random.pick(&[0, 48, 50, 300]) } else { 49 };
+            hand.show_row(place, room)
+        }
+        21..=27 => {
             let place = random.below(day.orders().len() + 2) as u64;
             let room = if random.once_in(8) { *random.pick(&[0, 79, 81, 300]) } else { 80 };
             hand.show(place, room)
@@ -387,8 +522,9 @@ fn question(day: &Day, random: &mut Random, hand: &mut Hand) -> Written {
         }
         _ => {
             let before = hand.table().to_vec();
-            let used = slot(day.orders().len()).start;
-            hand.patch(random.below(used), &[random.any() as u8])?;
+            let orders = random.below(slot(day.orders().len()).start);
+            let rows = row(0).start + random.below(ROW * day.rows().len().max(1));
+            hand.patch(*random.pick(&[orders, rows]), &[random.any() as u8])?;
             hand.check()?;
             hand.ask(random.below(ENTRIES))?;
             hand.restore(&before)

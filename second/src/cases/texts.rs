@@ -194,7 +194,12 @@ fn named_captures(random: &mut Random, out: &mut impl Write) -> Written {
     }
     let many: Vec<_> = (1..=460).flat_map(|number| piece(&format!("A T{number} {number}"))).collect();
     put(out, b'c', &capture_payload(64, &[4_096], &many))?;
-    put(out, b'c', &capture_payload(60_000, &vec![3; 500], &many))
+    put(out, b'c', &capture_payload(60_000, &vec![3; 500], &many))?;
+    // More quote rows than there are, with the longest lines of a section that a capture of this length can make.
+    let quotes: Vec<_> = (1..=130).flat_map(|number| piece(&format!("E Q{number:X} 999999"))).collect();
+    let broken: Vec<_> = (1..=130).flat_map(|number| piece(&format!("C Q{number:X} 999999"))).collect();
+    let text = [quotes.clone(), quotes, broken, piece("A T1 5")].concat();
+    ROOMS.iter().try_for_each(|room| put(out, b'c', &capture_payload(*room, &[1_000, 1], &text)))
 }
 
 /// One for each room and each list of sizes.

@@ -1,10 +1,12 @@
 //! The vectors of the papers, and a few for records as bytes, tables and texts, each with its answer written by hand.
+//! Those about quote rows are in `quotes`.
 
 use std::io::Write;
 
 use crate::cases::case::{
     capture_payload, order_payload, patch_payload, piece_payload, put, room_payload, strike_payload, Written,
 };
+use crate::cases::quotes::quotes;
 use crate::cases::shorthand::{capture, executed, key, piece, untraded, EXECUTED, WHOLE_CASE};
 use crate::rules::table::{slot, BROKEN, ELDER, SIZE, TABLE};
 
@@ -45,7 +47,7 @@ pub fn says(name: &'static str, kind: u8, payload: Vec<u8>, words: impl AsRef<[u
     Vector { name, kind, payload, says: Says::Words(words.as_ref().to_vec()) }
 }
 
-fn sums(name: &'static str, kind: u8, payload: Vec<u8>, before: &'static str, after: &str) -> Vector {
+pub fn sums(name: &'static str, kind: u8, payload: Vec<u8>, before: &'static str, after: &str) -> Vector {
     Vector { name, kind, payload, says: Says::Sum(before, after.to_string()) }
 }
 
@@ -54,7 +56,7 @@ fn books(words: &'static str, before: &'static str) -> Vector {
 }
 
 /// Bytes put into the table, what the damage check says then, and the bytes that stood there again.
-fn patched(name: &'static str, at: usize, [bytes, before]: [Vec<u8>; 2], words: &str) -> [Vector; 3] {
+pub fn patched(name: &'static str, at: usize, [bytes, before]: [Vec<u8>; 2], words: &str) -> [Vector; 3] {
     let patch = |name, bytes: &[u8]| sums(name, b'p', patch_payload(at as u32, bytes), "patch", "");
     [patch(name, &bytes), says(name, b'd', vec![], words), patch("As it was", &before)]
 }
@@ -73,7 +75,7 @@ fn of_strike(name: &'static str, code: u8, digits: u64, words: &str) -> Vector {
 
 /// 01, Both sides of each bound, and the plain words of 01, The line.
 #[rustfmt::skip]
-pub fn papers() -> Vec<Vector> {
+fn papers() -> Vec<Vector> {
     let too_long = [&EXECUTED.as_bytes()[..138], b" \r\n"].concat();
     let foreign_byte = executed(&[(11, "T1\t                 ")]);
     vec![
@@ -149,7 +151,7 @@ fn unread(name: &'static str, room: usize, piece: &[u8], outcome: &str) -> Vecto
 
 /// Records as bytes (TRIAL, A record as bytes, and LAYOUT, A record).
 #[rustfmt::skip]
-pub fn records() -> Vec<Vector> {
+fn records() -> Vec<Vector> {
     let line = executed(&[]);
     let read = |room: u16, rest: &[u8]| {
         [format!("record {room} done kind 1 [").as_bytes(), EXECUTED_STORED, rest, b"]"].concat()
@@ -227,11 +229,11 @@ const WHOLE_SHEET: &str = "orders 3 families 2\n1.1 100 30 30 0 70 0 ABCD01 T1\n
 const T2_STORED: &[u8; 80] = b"ABCD01T2                  BMSFT  G\x1B\x09C\xB6\x23\x03\0\xF8\x74\xC4\0\0\0\0\0\
     \x01\0\x3C\0\0\0\0\0\0\0\0\0\0\0\x0A\0\0\0\0\0\0\0\x32\0\0\0\0\0\0\0\0";
 /// The sum of as many bytes of 0 as a table has.
-const EMPTY_SUM: u64 = 40_968 * 65_536 + 1;
+const EMPTY_SUM: u64 = 47_240 * 65_536 + 1;
 
 /// The whole case booked into a table from the empty one on, and what the table then answers.
 #[rustfmt::skip]
-pub fn tables() -> Vec<Vector> {
+fn tables() -> Vec<Vector> {
     let sheet = |room: u32| room.to_le_bytes().to_vec();
     let whole_sheet = format!(" [{WHOLE_SHEET}]");
     let t2 = key("T2");
@@ -244,7 +246,7 @@ pub fn tables() -> Vec<Vector> {
     let damaged = "damaged";
     let mut all = vec![
         says("No table is in hand at the start", b'd', vec![], damaged),
-        says("A table of 40,968 bytes", b't', vec![0; TABLE], format!("table 40968 sum {EMPTY_SUM}")),
+        says("A table of 47,240 bytes", b't', vec![0; TABLE], format!("table 47240 sum {EMPTY_SUM}")),
         sums("A header without meaning", b'p', patch_payload(0, &[0xFF; 8]), "patch", ""),
         says("It is damaged", b'd', vec![], damaged),
         says("Making the empty table writes the header", b'e', vec![], format!("empty done sum {EMPTY_SUM}")),
@@ -384,7 +386,7 @@ fn pieces_by_number() -> Vec<Vector> {
 
 /// Pieces of texts, and the sheet program's steps.
 #[rustfmt::skip]
-pub fn texts() -> Vec<Vector> {
+fn texts() -> Vec<Vector> {
     let whole = capture(WHOLE_CASE);
     let printed = format!("fed [line 7 refused 7\n{WHOLE_SHEET}]");
     let mut all = vec![
@@ -423,9 +425,14 @@ pub fn texts() -> Vec<Vector> {
     all
 }
 
+/// All of them, in the order of their cases: the table in hand goes from one to the next.
+pub fn all() -> Vec<Vector> {
+    papers().into_iter().chain(records()).chain(tables()).chain(texts()).chain(quotes()).collect()
+}
+
 /// Writes their cases.
 pub fn write(out: &mut impl Write) -> Written {
-    for vector in papers().into_iter().chain(records()).chain(tables()).chain(texts()) {
+    for vector in all() {
         put(out, b'n', vector.name.as_bytes())?;
         put(out, vector.kind, &vector.payload)?;
     }

@@ -1,24 +1,17 @@
-//! The day's table: its orders, and the booking of pieces (01, Orders and their figures).
+//! The day's table: its orders and quote rows, and the booking of pieces (01, Orders and their figures).
 
 use std::collections::HashMap;
 
-use crate::rules::fields::{CONTRACTS, PRICE, REPLACED_TOKEN, ROOT, SIDE, SOURCE, STRIKE, TOKEN};
+use crate::rules::fields::{CONTRACTS, PRICE, REPLACED_TOKEN, ROOT, STRIKE, TOKEN};
+use crate::rules::key::{key_of, series_of, side_of, Key, Series, SOURCE_BYTES};
 use crate::rules::line::{self, Lawful, Line};
+use crate::rules::quotes::{is_id, Quote, Row, Rows};
 use crate::rules::refusal::Refusal;
 
 /// The most orders that a table holds.
 pub const MOST: usize = 512;
 /// The largest size of an order.
 pub const MOST_CONTRACTS: u32 = 999_999;
-
-/// The six Source bytes, then the twenty Token bytes.
-pub type Key = [u8; SOURCE_BYTES + TOKEN_BYTES];
-/// Fields 16 to 21 as they stand on the line. Each lawful value has one form, so that two series
-/// are the same exactly when their bytes are.
-pub type Series = [u8; 18];
-
-const SOURCE_BYTES: usize = 6;
-const TOKEN_BYTES: usize = 20;
 
 /// Where an order's contracts went. Its size is executed + cancelled + passed on + open.
 #[derive(Clone, Copy, Debug, Default, PartialEq, Eq)]
@@ -70,21 +63,26 @@ pub struct Day {
     orders: Vec<Order>,
     /// The place of the earliest order with each key. No key is ever freed.
     places: HashMap<Key, usize>,
+    rows: Rows,
     over: bool,
 }
 
 impl Day {
-    /// The day with these orders, which may repeat a key.
-    pub fn of(orders: Vec<Order>, over: bool) -> Day {
+    /// The day with these orders, which may repeat a key, and these quote rows.
+    pub fn of(orders: Vec<Order>, rows: Rows, over: bool) -> Day {
         let mut places = HashMap::with_capacity(orders.len());
         for (place, order) in orders.iter().enumerate() {
             places.entry(order.key).or_insert(place);
         }
-        Day { orders, places, over }
+        Day { orders, places, rows, over }
     }
 
     pub fn orders(&self) -> &[Order] {
         &self.orders
+    }
+
+    pub fn rows(&self) -> &[Row] {
+        self.rows.all()
     }
 
     pub fn is_over(&self) -> bool {
@@ -123,7 +121,8 @@ impl Day {
 
     fn replace(&mut self, line: Line) -> Result<(), Refusal> {
         let key = self.new_key(line)?;
-        let elder = self.named(line, REPLACED_TOKEN)?;
+        let elder = self.place(&key_of(line, REPLACED_TOKEN)).ok_or(Refusal::UnknownKey)?;
+        self.agree(elder, line)?;
         if self.orders[elder].figures.open == 0 {
             return Err(Refusal::TooLittleOpen);
         }
@@ -135,9 +134,18 @@ impl Day {
         Ok(())
     }
 
-    /// Books an E, C, X or R.
+    /// Books an E, C, X or R: on an order if there is one.
     fn change(&mut self, letter: u8, line: Line) -> Result<(), Refusal> {
-        let place = self.named(line, TOKEN)?;
+        let key = key_of(line, TOKEN);
+        match self.place(&key) {
+            Some(place) => self.change_order(place, letter, line),
+            None if is_id(line.field(TOKEN)) => self.change_row(key, letter, line),
+            None => Err(Refusal::UnknownKey),
+        }
+    }
+
+    fn change_order(&mut self, place: usize, letter: u8, line: Line) -> Result<(), Refusal> {
+        self.agree(place, line)?;
         let order = &mut self.orders[place];
         let figures = &mut order.figures;
         let contracts = contracts(line);
@@ -160,23 +168,32 @@ impl Day {
         Ok(())
     }
 
+    /// Books an E or C whose key is an SQF id's. No row stands for an X or R.
+    fn change_row(&mut self, key: Key, letter: u8, line: Line) -> Result<(), Refusal> {
+        let quote = Quote { key, side: side_of(line), series: series_of(line) };
+        match letter {
+            b'E' => self.rows.execute(quote, contracts(line)),
+            b'C' => self.rows.undo(quote, contracts(line)),
+            _ => Err(Refusal::UnknownKey),
+        }
+    }
+
     /// The key of an order that is not in the table yet.
     fn new_key(&self, line: Line) -> Result<Key, Refusal> {
-        let key = key(line, TOKEN);
+        let key = key_of(line, TOKEN);
         if self.places.contains_key(&key) {
             return Err(Refusal::KnownKey);
         }
         Ok(key)
     }
 
-    /// The place of the order that a token of the line names, its side and series being the line's.
-    fn named(&self, line: Line, token: usize) -> Result<usize, Refusal> {
-        let place = self.place(&key(line, token)).ok_or(Refusal::UnknownKey)?;
+    /// Whether the line is of the side and series of the order at a place.
+    fn agree(&self, place: usize, line: Line) -> Result<(), Refusal> {
         let order = &self.orders[place];
-        if order.side != side(line) || order.series != line.fields(ROOT, STRIKE) {
+        if order.side != side_of(line) || order.series != line.fields(ROOT, STRIKE) {
             return Err(Refusal::OtherSideOrSeries);
         }
-        Ok(place)
+        Ok(())
     }
 
     fn room(&self) -> Result<(), Refusal> {
@@ -189,23 +206,10 @@ impl Day {
     fn add(&mut self, key: Key, line: Line, elder: Option<usize>) {
         let size = contracts(line);
         let figures = Figures { size, open: size, ..Figures::default() };
-        let mut series = [0; 18];
-        series.copy_from_slice(line.fields(ROOT, STRIKE));
+        let (side, series, price) = (side_of(line), series_of(line), line.number(PRICE));
         self.places.insert(key, self.orders.len());
-        self.orders.push(Order { key, side: side(line), series, price: line.number(PRICE), elder, figures });
+        self.orders.push(Order { key, side, series, price, elder, figures });
     }
-}
-
-/// The line's Source with one of its two tokens.
-fn key(line: Line, token: usize) -> Key {
-    let mut key = [0; SOURCE_BYTES + TOKEN_BYTES];
-    key[..SOURCE_BYTES].copy_from_slice(line.field(SOURCE));
-    key[SOURCE_BYTES..].copy_from_slice(line.field(token));
-    key
-}
-
-fn side(line: Line) -> u8 {
-    line.field(SIDE)[0]
 }
 
 /// At most six digits.

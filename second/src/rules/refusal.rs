@@ -1,8 +1,9 @@
-//! The numbered refusals (01, Refusals by number).
+//! The numbered refusals (01, Refusals by number, and 02, Ticket 1).
 
 use std::fmt;
 
-/// Why nothing was done. A `Field` carries the number of the first field that breaks its rule.
+/// Why nothing was done. A `Field` carries the number of the first field that breaks its rule; `FullRows` says that no
+/// quote row is left, or that one can't hold more.
 #[derive(Clone, Copy, Debug, PartialEq, Eq)]
 pub enum Refusal {
     Piece,
@@ -17,6 +18,7 @@ pub enum Refusal {
     TooLittleOpen,
     TooLittleExecuted,
     FullTable,
+    FullRows,
 }
 
 impl Refusal {
@@ -34,6 +36,7 @@ impl Refusal {
             Refusal::TooLittleOpen => 10,
             Refusal::TooLittleExecuted => 11,
             Refusal::FullTable => 12,
+            Refusal::FullRows => 13,
         }
     }
 

@@ -1,10 +1,11 @@
-//! The family sheet, and the sheet program that books a capture and prints it (01, The sheet).
+//! The family sheet with the quote rows below, and the sheet program that books a capture and prints it (01, The sheet).
 
 use std::io::{self, BufRead, ErrorKind, Write};
 use std::iter;
 
 use crate::rules::day::{Day, Order};
 use crate::rules::fields::{LF, LINE};
+use crate::rules::quotes::Row;
 
 /// As much as is kept of a piece that straddles two chunks: a longer one is refused by its length.
 const KEPT: usize = LINE + 1;
@@ -74,7 +75,8 @@ impl<W: Write> Booking<'_, W> {
     }
 }
 
-/// Writes the sheet: families by the acceptance of their first order, each from eldest to youngest.
+/// Writes the sheet: families by the acceptance of their first order, each from eldest to youngest; then quote rows by
+/// their first E.
 pub fn write(day: &Day, out: &mut impl Write) -> io::Result<()> {
     let orders = day.orders();
     // An order is replaced at most once: nothing is open afterwards.
@@ -93,7 +95,7 @@ pub fn write(day: &Day, out: &mut impl Write) -> io::Result<()> {
             write_order(&orders[place], out)?;
         }
     }
-    Ok(())
+    day.rows().iter().try_for_each(|row| write_row(row, out))
 }
 
 /// The sheet as one text.
@@ -111,5 +113,13 @@ fn write_order(order: &Order, out: &mut impl Write) -> io::Result<()> {
     out.write_all(order.source())?;
     out.write_all(b" ")?;
     out.write_all(order.token().trim_ascii_end())?;
+    out.write_all(b"\n")
+}
+
+fn write_row(row: &Row, out: &mut impl Write) -> io::Result<()> {
+    out.write_all(b"quote ")?;
+    out.write_all(row.quote.id())?;
+    write!(out, " {} {} ", row.executed, row.broken)?;
+    out.write_all(row.quote.source())?;
     out.write_all(b"\n")
 }

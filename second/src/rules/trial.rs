@@ -15,13 +15,13 @@ use crate::rules::table;
 
 /// The longest payload.
 pub const LONGEST: usize = 65_536;
-/// The longest buffer that an `i`, `w` or `o` case may ask for, and the longest for a sheet.
+/// The longest buffer that an `i`, `w`, `o` or `q` case may ask for, and the longest for a sheet.
 const WIDEST: usize = 300;
 pub const WIDEST_SHEET: usize = 60_000;
 /// The most answers that an `a` case may ask for.
 pub const MOST_ANSWERS: usize = 1_000;
 /// The longest table in hand.
-pub const LONGEST_TABLE: usize = 41_100;
+pub const LONGEST_TABLE: usize = 47_400;
 /// What a step of the sheet program may write.
 const ROOMS: RangeInclusive<u32> = 64..=60_000;
 /// The buffers that a record is written back into after it was read.
@@ -89,6 +89,7 @@ impl Trial {
             b'd' => self.damage(payload, out),
             b'l' => self.look_up(payload, out),
             b'o' => self.order(payload, out),
+            b'q' => self.quote(payload, out),
             b'b' => self.book(payload, out),
             b'a' => self.book_all(payload, out),
             b'h' => self.sheet(payload, out),
@@ -232,6 +233,9 @@ fn clock_time(payload: &[u8], out: &mut Vec<u8>) -> Option<()> {
 
 // Tables.
 
+/// An entry that copies what stands at a place of a table to the front of a buffer.
+type Copying = fn(&[u8], u64, &mut [u8]) -> Result<(), Refusal>;
+
 impl Trial {
     fn sum(&self) -> u64 {
         sum(&self.table)
@@ -277,13 +281,22 @@ impl Trial {
     }
 
     fn order(&self, payload: &[u8], out: &mut Vec<u8>) -> Option<()> {
+        self.copied("order", table::write_order, payload, out)
+    }
+
+    fn quote(&self, payload: &[u8], out: &mut Vec<u8>) -> Option<()> {
+        self.copied("quote", table::write_row, payload, out)
+    }
+
+    /// Has an entry copy what stands at a place of the table, and shows it.
+    fn copied(&self, word: &str, entry: Copying, payload: &[u8], out: &mut Vec<u8>) -> Option<()> {
         let (place, rest) = payload.split_first_chunk()?;
         let (room, rest) = room(rest)?;
         nothing(rest)?;
         let mut buffer = [UNTOUCHED; WIDEST];
         let buffer = &mut buffer[..room];
-        let outcome = outcome(table::write_order(&self.table, u64::from_le_bytes(*place), buffer));
-        say_buffer(out, &format!("order {room} {outcome}"), buffer);
+        let outcome = outcome(entry(&self.table, u64::from_le_bytes(*place), buffer));
+        say_buffer(out, &format!("{word} {room} {outcome}"), buffer);
         Some(())
     }
 

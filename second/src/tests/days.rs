@@ -1,5 +1,6 @@
 //! The tests of the day: captures with all that the sheet program prints for them, and laws over random streams.
 
+use std::borrow::Cow;
 use std::collections::BTreeSet;
 use std::io::{self, BufReader, ErrorKind, Read};
 
@@ -8,6 +9,7 @@ use crate::cases::shorthand::{capture, other, piece, OTHERS, WHOLE_CASE};
 use crate::cases::stream;
 use crate::rules::day::{Day, Figures, MOST};
 use crate::rules::fields::{CR_LF, LF, LINE};
+use crate::rules::quotes::{self, MOST_ROWS};
 use crate::rules::refusal::Refusal;
 use crate::rules::sheet;
 use crate::tests::law::Law;
@@ -152,7 +154,7 @@ pub fn captures() -> Vec<Capture> {
     ]
 }
 
-pub fn laws() -> [Law; 15] {
+pub fn laws() -> [Law; 23] {
     [
         ("Another side or series is 9 on E, C, X, R and U, whichever field differs", others_are_refused),
         ("Order 512 is taken, order 513 is 12, and 12 comes after all others", a_table_fills),
@@ -160,15 +162,26 @@ pub fn laws() -> [Law; 15] {
         ("A and U set the price, and R changes it", prices_are_set),
         ("A failed read counts as the end, an interrupted one doesn't", failed_reads_end),
         ("Chunks of any size print the same", chunks_print_the_same),
-        ("The streams hold every refusal from 1 to 12 but 4 and 5, and book every type", streams_hold_everything),
+        ("The streams hold every refusal from 1 to 13 but 4 and 5, and book every type", streams_hold_everything),
         ("Size is executed + cancelled + passed on + open, and broken never above executed", sums_hold),
         ("A refused line changes nothing", refusals_change_nothing),
         ("Every figure is what the accepted lines say", sheets_are_what_lines_say),
         ("Every order is listed once", orders_are_listed_once),
         ("Families come by the acceptance of their first order, each from eldest to youngest", families_come_in_order),
         ("The accepted lines alone give the same sheet and no refusal", accepted_lines_suffice),
+        ("Quote row 128 is made, row 129 is 13, and the others go on", sections_fill),
+        ("A row's executed reaches 4,294,967,295 and not 4,294,967,296", rows_reach_the_bound),
+        ("Another side, series, Source or id has another row, whichever field differs", others_have_rows),
+        ("A token is an id exactly when it is sixteen of 0-9 A-F and four spaces", ids_are_judged),
+        (
+            "A fair share of the streams' lines is about quote rows, and ids become orders by A and by U",
+            streams_hold_quotes,
+        ),
+        ("No line of a quote row changes an order, and no line of an order a row", rows_and_orders_are_apart),
+        ("Each quote row is listed once, below the families and by its first E", rows_are_listed_once),
         ("A long day is accepted to its last line", long_days_are_accepted),
         ("A day of orders alone in their families is accepted to its last line", days_alone_are_accepted),
+        ("A day of quote rows alone is accepted to its last line", days_of_quotes_are_accepted),
     ]
 }
 
@@ -294,7 +307,8 @@ fn streams_hold_everything() -> bool {
         }
     }
     let types = b"ACERUX".iter().map(|letter| Some(*letter));
-    refused.into_iter().eq([1, 2, 3, 6, 7, 8, 9, 10, 11, 12]) && taken.into_iter().eq([None].into_iter().chain(types))
+    refused.into_iter().eq([1, 2, 3, 6, 7, 8, 9, 10, 11, 12, 13])
+        && taken.into_iter().eq([None].into_iter().chain(types))
 }
 
 fn sums_hold() -> bool {
@@ -304,7 +318,11 @@ fn sums_hold() -> bool {
     };
     streams().all(|text| {
         let mut day = Day::default();
-        pieces(&text).all(|piece| day.book(piece).is_err() || day.orders().iter().all(|order| adds_up(order.figures)))
+        pieces(&text).all(|piece| {
+            let unchanged = day.book(piece).is_err();
+            let rows_hold = || day.rows().iter().all(|row| row.executed > 0 && row.broken <= row.executed);
+            unchanged || day.orders().iter().all(|order| adds_up(order.figures)) && rows_hold()
+        })
     })
 }
 
@@ -335,9 +353,10 @@ fn told(accepted: &[&[u8]]) -> String {
     let lines: Vec<_> =
         accepted.iter().map(|piece| String::from_utf8_lossy(piece)).filter(|line| line.len() == LINE).collect();
     let contracts = |line: &str| line[86..92].trim().parse::<u64>().unwrap_or(0);
+    // What stands before the order's own line is about a quote row.
     let sum = |letter: &str, key: &str| -> u64 {
-        let naming = lines.iter().filter(|line| &line[8..9] == letter && &line[30..56] == key);
-        naming.map(|line| contracts(line)).sum()
+        let naming = lines.iter().filter(|line| &line[30..56] == key).skip_while(|line| !makes_order(line));
+        naming.filter(|line| &line[8..9] == letter).map(|line| contracts(line)).sum()
     };
     let replaces =
         |line: &str, elder: &str| &line[8..9] == "U" && line[30..36] == elder[30..36] && line[56..76] == elder[36..56];
@@ -357,7 +376,36 @@ fn told(accepted: &[&[u8]]) -> String {
             said += &format!("{} {}\n", &key[..6], key[6..].trim_end());
         }
     }
-    said
+    said + &told_quotes(&lines)
+}
+
+fn makes_order(line: &str) -> bool {
+    matches!(&line[8..9], "A" | "U")
+}
+
+/// The quote rows as the accepted lines tell them: an E or C is about one if no order had its key before.
+fn told_quotes(lines: &[Cow<str>]) -> String {
+    let (mut keys, mut rows) = (BTreeSet::new(), Vec::<(String, u64, u64)>::new());
+    for line in lines {
+        let key = &line[30..56];
+        if makes_order(line) {
+            keys.insert(key);
+        }
+        if keys.contains(key) {
+            continue;
+        }
+        let name = [key, &line[85..86], &line[92..110]].concat();
+        let contracts: u64 = line[86..92].trim().parse().unwrap_or(0);
+        match rows.iter_mut().find(|row| row.0 == name) {
+            Some(row) if &line[8..9] == "E" => row.1 += contracts,
+            Some(row) => row.2 += contracts,
+            None => rows.push((name, contracts, 0)),
+        }
+    }
+    let row = |(name, executed, broken): &(String, u64, u64)| {
+        format!("quote {} {executed} {broken} {}\n", &name[6..22], &name[..6])
+    };
+    rows.iter().map(row).collect()
 }
 
 /// A row of the sheet: its family, its place in it, and the place of its order in the table.
@@ -373,7 +421,7 @@ fn rows(day: &Day) -> Option<Vec<Row>> {
         let place = day.place(key.as_bytes().try_into().ok()?)?;
         Some((family.parse().ok()?, member.parse().ok()?, place))
     };
-    sheet_of(day).lines().skip(1).map(row).collect()
+    sheet_of(day).lines().skip(1).take_while(|line| !line.starts_with("quote ")).map(row).collect()
 }
 
 fn orders_are_listed_once() -> bool {
@@ -413,6 +461,123 @@ fn accepted_lines_suffice() -> bool {
     })
 }
 
+// Quote rows.
+
+fn sections_fill() -> bool {
+    let rows = || (1..=MOST_ROWS).flat_map(|number| piece(&format!("E Q{number:X} {number}")));
+    let text: Vec<_> =
+        rows().chain(capture("E Q81 1; C Q81 1; E Q80 1; C Q80 129; C Q80 1; A Q81 4; E Q81 4")).collect();
+    let expected = ["line 129 refused 13", "line 130 refused 8", "line 133 refused 11"];
+    let said = printed(&text);
+    let last = "\n1.1 4 4 0 0 0 0 ABCD01 0000000000000081\nquote 0000000000000001 1 0 ABCD01\n";
+    refusals(&text) == expected
+        && said.contains(last)
+        && said.ends_with("\nquote 0000000000000080 129 129 ABCD01\n")
+        && said.lines().filter(|line| line.starts_with("quote ")).count() == 128
+}
+
+/// 4,294 lines of 999,999 leave 971,589 to the bound.
+fn rows_reach_the_bound() -> bool {
+    let mut day = Day::default();
+    let taken = (0..4_294).all(|_| day.book(&piece("E QA1 999999")) == Ok(()));
+    let mut book = |words: &str| day.book(&piece(words));
+    taken
+        && book("E QA1 971590") == Err(Refusal::FullRows)
+        && book("E QA1 971589") == Ok(())
+        && book("E QA1 1") == Err(Refusal::FullRows)
+        && book("E QA2 999999") == Ok(())
+        && book("C QA1 999999") == Ok(())
+        && day.rows()[0].executed == u32::MAX
+        && day.rows()[0].broken == 999_999
+}
+
+fn others_have_rows() -> bool {
+    let sources = [(10, "ABCD02"), (10, "A     ")];
+    let ids = [(11, "00000000000000A2    "), (11, "10000000000000A1    ")];
+    OTHERS.into_iter().chain(sources).chain(ids).all(|change| {
+        let mut day = Day::default();
+        day.book(&piece("E QA1 5")) == Ok(())
+            && day.book(&other("C QA1 5", &[change])) == Err(Refusal::UnknownKey)
+            && day.book(&other("E QA1 7", &[change])) == Ok(())
+            && day.book(&other("C QA1 6", &[change])) == Ok(())
+            && day.book(&piece("C QA1 6")) == Err(Refusal::TooLittleExecuted)
+            && day.rows().iter().map(|row| (row.executed, row.broken)).eq([(5, 0), (7, 6)])
+    })
+}
+
+/// Every printable byte at every place of a token.
+fn ids_are_judged() -> bool {
+    (0..20).all(|at| {
+        (0x20..=0x7E).all(|byte: u8| {
+            let mut line = piece("E QA1 5");
+            line[36 + at] = byte;
+            let id = if at < 16 { byte.is_ascii_digit() || (b'A'..=b'F').contains(&byte) } else { byte == b' ' };
+            // A token that begins with a space is no text.
+            let refusal = if at == 0 && byte == b' ' { Refusal::Field(11) } else { Refusal::UnknownKey };
+            Day::default().book(&line) == if id { Ok(()) } else { Err(refusal) }
+        })
+    })
+}
+
+fn streams_hold_quotes() -> bool {
+    let mut by = BTreeSet::new();
+    let fair = streams().all(|text| {
+        let mut day = Day::default();
+        let (mut booked, mut quotes) = (0, 0);
+        for piece in pieces(&text) {
+            let before = day.rows().to_vec();
+            if day.book(piece).is_ok() {
+                booked += 1;
+                quotes += u32::from(day.rows() != before);
+            }
+            if piece.len() == LINE && before.iter().any(|row| row.quote.key == piece[30..56]) {
+                by.insert((
+                    piece[8],
+                    day.rows() != before,
+                    day.place(piece[30..56].try_into().expect("a key")).is_some(),
+                ));
+            }
+        }
+        // Of days that end early most lines come afterwards.
+        booked < 500 || quotes * 10 > booked
+    });
+    // E and C on a row and on an order that took its key; A and U that take it.
+    let wanted = [(b'E', true, false), (b'C', true, false), (b'E', false, true), (b'C', false, true)];
+    fair && wanted.into_iter().chain([(b'A', false, true), (b'U', false, true)]).all(|way| by.contains(&way))
+}
+
+fn rows_and_orders_are_apart() -> bool {
+    streams().all(|text| {
+        let mut day = Day::default();
+        pieces(&text).all(|piece| {
+            let before = day.clone();
+            if day.book(piece).is_err() || piece.len() != LINE {
+                return true;
+            }
+            let key = piece[30..56].try_into().expect("a key");
+            let same_orders = day.orders() == before.orders();
+            let same_rows = day.rows() == before.rows();
+            match (piece[8], before.place(key)) {
+                (b'E' | b'C', None) => same_orders && !same_rows,
+                _ => same_rows,
+            }
+        })
+    })
+}
+
+fn rows_are_listed_once() -> bool {
+    streams().all(|text| {
+        let (day, _) = booked(&text);
+        let sheet = sheet_of(&day);
+        let listed: Vec<_> = sheet.lines().skip(1 + day.orders().len()).map(str::to_string).collect();
+        let row = |row: &quotes::Row| {
+            let (id, source) = (String::from_utf8_lossy(row.quote.id()), String::from_utf8_lossy(row.quote.source()));
+            format!("quote {id} {} {} {source}", row.executed, row.broken)
+        };
+        listed == day.rows().iter().map(row).collect::<Vec<_>>()
+    })
+}
+
 /// Whether all lines of long days are accepted, and whether the longer ones have all types and orders.
 fn long_days_are_accepted() -> bool {
     [0, 1, 2, 100, 2_000, 20_000].into_iter().zip(1..).all(|(count, seed)| {
@@ -437,5 +602,15 @@ fn days_alone_are_accepted() -> bool {
         let founding = accepted.iter().take(orders).all(|piece| piece[8] == b'A');
         let alone = day.orders().iter().all(|order| order.elder.is_none());
         whole && founding && alone && day.orders().len() == orders.min(accepted.len()) && !day.is_over()
+    })
+}
+
+fn days_of_quotes_are_accepted() -> bool {
+    [(0, 1), (1, 1), (2_000, 1), (100, 128), (5_000, 128)].into_iter().zip(1..).all(|((count, rows), seed)| {
+        let mut text = Vec::new();
+        long_day::write_quotes(seed, count, rows, &mut text).expect("memory takes every byte");
+        let (day, accepted) = booked(&text);
+        let whole = accepted.len() == count as usize && text.len() == LINE * accepted.len();
+        whole && day.orders().is_empty() && day.rows().len() == rows.min(accepted.len()) && !day.is_over()
     })
 }

@@ -2,13 +2,13 @@
 
 use crate::cases::case::room_payload;
 use crate::cases::shorthand::{executed, untraded, EXECUTED, NO_TOKEN};
-use crate::cases::vectors::{papers, reads, records, refused_field, says, tables, texts, unwritten, Says, Vector};
+use crate::cases::vectors::{self, reads, refused_field, says, unwritten, Says, Vector};
 use crate::rules::record::Record;
 use crate::rules::trial::Trial;
 
 /// The vectors that are cases too, and those that are tests alone.
 pub fn all() -> Vec<Vector> {
-    papers().into_iter().chain(records()).chain(tables()).chain(texts()).chain(more()).collect()
+    vectors::all().into_iter().chain(more()).collect()
 }
 
 /// Whether the trial says what the vector wants. It keeps the table in hand for the next vector.
@@ -97,5 +97,13 @@ fn more() -> Vec<Vector> {
         says("A strike of 2 to the 64 less 1 leaves one number", b's', [&b"E"[..], &[0xFF; 8]].concat(),
             "strike refused 3 field 21 left 7"),
         says("A strike without its number is a bad case", b's', b"A".to_vec(), "bad case"),
+        says("A table of 40,968 bytes, without quote rows", b't', vec![0; 40_968], format!("table 40968 sum {}", 40_968 * 65_536_u64 + 1)),
+        says("is damaged", b'd', vec![], "damaged"),
+        says("and too short to be made empty", b'e', vec![], format!("empty refused 4 sum {}", 40_968 * 65_536_u64 + 1)),
+        says("A table of 47,241 bytes", b't', vec![0; 47_241], format!("table 47241 sum {}", 47_241 * 65_536_u64 + 1)),
+        says("is damaged too", b'd', vec![], "damaged"),
+        says("and too long to be made empty", b'e', vec![], format!("empty refused 5 sum {}", 47_241 * 65_536_u64 + 1)),
+        says("A table of 47,400 bytes", b't', vec![0; 47_400], format!("table 47400 sum {}", 47_400 * 65_536_u64 + 1)),
+        says("A table of 47,401 bytes is a bad case", b't', vec![0; 47_401], "bad case"),
     ]
 }

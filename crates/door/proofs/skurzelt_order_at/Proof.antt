@@ -1,6 +1,8 @@
 -- `door::skurzelt_order_at` meets its contract: the table's own answer, as one number.
 use borrow.Author.Needs.{needs}
 use denote.Ref.{now}
+use Rattle.slot.specs.Places.{slots}
+use Rattle.table.specs.Tables.{countIn}
 use Rattle.door.proofs.Answered.{copied, uncopied}
 use Rattle.door.proofs.skurzelt_order_at.Statement.{statement}
 use Rattle.door.proofs.skurzelt_order_at.Tie as tie
@@ -23,7 +25,7 @@ same-length c = search needs
 returns : tie.Need-returns
 returns c =
     let start = c .before .before .before .before .before .before .before .before in
-    copied (now (start .args .table)) (start .args .place) (now (start .args .order)) _ _ (c .before .before .before .before .copy-order .ensures) (c .enum-told .given .1)
+    copied slots (countIn (now (start .args .table))) (now (start .args .table)) (start .args .place) (now (start .args .order)) _ _ (c .before .before .before .before .copy-order .ensures) (c .enum-told .given .1)
 
 same-length-2 : tie.Need-same-length-2
 same-length-2 c = search needs
@@ -31,7 +33,7 @@ same-length-2 c = search needs
 returns-2 : tie.Need-returns-2
 returns-2 c =
     let start = c .before .before .before .before .before .before .before .before .before .before in
-    uncopied (now (start .args .table)) (start .args .place) (now (start .args .order)) _ _ (c .before .before .before .before .before .before .copy-order .ensures) (c .before .before .x .given .0 .0) _ (c .before .before .x .given .1) (c .code .ensures)
+    uncopied slots (countIn (now (start .args .table))) (now (start .args .table)) (start .args .place) (now (start .args .order)) _ _ (c .before .before .before .before .before .before .copy-order .ensures) (c .before .before .x .given .0 .0) _ (c .before .before .x .given .1) (c .code .ensures)
 
 pub skurzelt-order-at-spec : {M : Type 1} → statement M
 skurzelt-order-at-spec =

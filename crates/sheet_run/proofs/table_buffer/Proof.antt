@@ -7,7 +7,7 @@ use Rattle.sheet_run.proofs.table_buffer.Statement.{statement}
 use Rattle.sheet_run.proofs.table_buffer.Tie as tie
 
 returns : tie.Need-returns
-returns c = least-length ∙ sym (length-replicate {A = ℕ} 40968 0)
+returns c = least-length ∙ sym (length-replicate {A = ℕ} 47240 0)
 
 pub table-buffer-spec : {M : Type 1} → statement M
 table-buffer-spec = tie.close (tie.spec returns)

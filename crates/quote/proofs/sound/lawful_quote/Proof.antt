@@ -11,11 +11,11 @@ slice-aggregate-is-text c = search needs
 is-text-requires : tie.Need-is-text-requires
 is-text-requires c κs = search needs
 
-slice-aggregate-holds-id : tie.Need-slice-aggregate-holds-id
-slice-aggregate-holds-id c = search needs
+slice-aggregate-names-quote : tie.Need-slice-aggregate-names-quote
+slice-aggregate-names-quote c = search needs
 
-holds-id-requires : tie.Need-holds-id-requires
-holds-id-requires c κs = search needs
+names-quote-requires : tie.Need-names-quote-requires
+names-quote-requires c κs = search needs
 
 slice-aggregate-member : tie.Need-slice-aggregate-member
 slice-aggregate-member c = search needs
@@ -29,7 +29,7 @@ lawful-series-requires c κs = search needs
 returns : tie.Need-returns
 returns c =
     let q = c .before .before .before .before .before .before .before .before .before .before .args .q in
-    quote-lawful q _ _ _ _ (text-lawful 6 (q .key .source) _ (search needs) (c .before .before .before .before .before .is-text .ensures)) (c .before .before .before .holds-id .ensures) (c .before .member .ensures)
+    quote-lawful q _ _ _ _ (text-lawful 6 (q .key .source) _ (search needs) (c .before .before .before .before .before .is-text .ensures)) (c .before .before .before .names-quote .ensures) (c .before .member .ensures)
     (c .lawful-series .ensures)
 
 pub lawful-quote-spec : {M : Type 1} → statement M
@@ -38,8 +38,8 @@ lawful-quote-spec =
     (tie.spec
     slice-aggregate-is-text
     is-text-requires
-    slice-aggregate-holds-id
-    holds-id-requires
+    slice-aggregate-names-quote
+    names-quote-requires
     slice-aggregate-member
     member-requires
     lawful-series-requires
