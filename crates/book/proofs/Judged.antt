@@ -3,13 +3,12 @@ use Prim.Native.Nat.{ℕ, zero, suc, _+_, _-_, _≤_, _<_}
 use native.Mathlib.Numerals.{add-one}
 use native.Mathlib.Omega.{arith}
 use mathlib.Core.Path.{_≡_, refl, sym, ap, _∙_}
-use mathlib.Core.Bool.{Bool, true, false, not, _&&_, or-false, and-true, and-false, false≢true}
+use mathlib.Core.Bool.{Bool, true, false, not, _&&_, or-false, and-true, and-false}
 use mathlib.Core.List.{List}
 use borrow.Author.Tests.{ltb-false, lt-ltb, le-ltb, lt-leb, le-leb, ne-eqb}
 use lib.Dec.{eqb}
 use Rattle.refusal.specs.declared.Refusal.the-variants.{OtherSeries, NotOpen, NotExecuted, Full, RowFull}
-use Rattle.layout.specs.declared.Event.{Event}
-use Rattle.layout.specs.declared.Event.the-variants.{Accepted, Executed, Cancelled, Broken, Replaced, Repriced}
+use Rattle.layout.specs.declared.Event.the-variants.{Executed, Cancelled, Broken}
 use Rattle.layout.specs.declared.Record.{Record}
 use Rattle.layout.specs.declared.Trade.{Trade}
 use Rattle.order.specs.declared.Key.{Key}
@@ -20,6 +19,7 @@ use Rattle.day.specs.History.{isExecution, isBreak, isMaker}
 use Rattle.day.specs.Machine.{found, find, isFound, place, differs, notOpen, notExecuted, seen}
 use Rattle.day.specs.Machine.{none as unseen}
 use Rattle.day.specs.Quotes.{isFill}
+use Rattle.day.proofs.Letters.{execution-unbroken}
 use Rattle.slot.specs.Slots.{askedOf}
 use Rattle.slot.specs.Places.{placeNo}
 use Rattle.slot.specs.declared.Asked.{Asked}
@@ -88,15 +88,6 @@ module _ (i : ℕ) (o : Order) (r : Record) (full : Bool) where
 
 -- ---- 02, 1: of a line about a quote row
 
--- E is no C
-executed-unbroken : (e : Event) → isExecution e ≡ true → isBreak e ≡ false
-executed-unbroken Accepted q = refl
-executed-unbroken (Executed t) q = refl
-executed-unbroken Cancelled q = refl
-executed-unbroken (Broken t) q = absurd (false≢true q)
-executed-unbroken Replaced q = refl
-executed-unbroken Repriced q = refl
-
 module _ (n : ℕ) (r : Record) (e : isExecution (r .event) ≡ true) (most : ℕ) (q : most ≡ mostRows) where
   pub by-full : most ≤ n → No RowFull ≡ planRow n 0 unseen r
   by-full h = rw (e, le-leb mostRows n (rw q at h))
@@ -107,10 +98,10 @@ module _ (n : ℕ) (r : Record) (e : isExecution (r .event) ≡ true) (most : �
 module _ (i : ℕ) (w : QuoteRow) (r : Record) where
   module _ (most : w .executed ≤ mostExecuted) (e : isExecution (r .event) ≡ true) where
     pub by-most : mostExecuted - w .executed < r .contracts → No RowFull ≡ planRow 0 i (seen w) r
-    by-most h = rw (executed-unbroken (r .event) e, e, lt-ltb mostExecuted (w .executed + r .contracts) (omega arith))
+    by-most h = rw (execution-unbroken (r .event) e, e, lt-ltb mostExecuted (w .executed + r .contracts) (omega arith))
 
     pub by-execution : r .contracts ≤ mostExecuted - w .executed → Sums i (w .executed + r .contracts) (w .broken) ≡ planRow 0 i (seen w) r
-    by-execution h = rw (executed-unbroken (r .event) e, e, le-ltb mostExecuted (w .executed + r .contracts) (omega arith))
+    by-execution h = rw (execution-unbroken (r .event) e, e, le-ltb mostExecuted (w .executed + r .contracts) (omega arith))
 
   module _ (f : isFill (r .event) ≡ true) (e : isExecution (r .event) ≡ false) where
     broken : isBreak (r .event) ≡ true

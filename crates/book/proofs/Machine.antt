@@ -30,6 +30,7 @@ use Rattle.day.specs.Refusals.{subject}
 use Rattle.day.specs.Tables.{withOrders, withQuotes, Booked}
 use Rattle.day.specs.Machine.{book as bookDay}
 use Rattle.day.proofs.Admitted.{Admitted, admitted, Spoken, spoken}
+use Rattle.day.proofs.Letters.{fill-old}
 use Rattle.day.proofs.Orders.{Finds, stands, length-amend}
 use Rattle.day.proofs.Sound.{book-undamaged, unbooked}
 use Rattle.day.proofs.Undamaged.{apart-rows}
@@ -45,15 +46,6 @@ use Rattle.book.specs.Bytes.{eventBytes, executeBytes, fillBytes, accept
 use Rattle.book.proofs.Lengths.{booked-length}
 
 -- ---- an accepted line
-
--- E and C are no A
-fill-old : (e : Event) → isFill e ≡ true → isNew e ≡ false
-fill-old Accepted f = absurd (false≢true f)
-fill-old (Executed t) f = refl
-fill-old Cancelled f = refl
-fill-old (Broken t) f = refl
-fill-old Replaced f = refl
-fill-old Repriced f = refl
 
 module _ {s : List ℕ} (h : Holds s (tableIn s)) where
   abbrev os : List Order

@@ -2,7 +2,7 @@
 use Prim.Native.Nat.{ℕ, _+_, _-_}
 use native.Mathlib.Omega.{arith}
 use mathlib.Core.Path.{_≡_, refl, sym, ap, ap₂, _∙_}
-use mathlib.Core.Bool.{Bool, true, false, cond, not, _&&_, false≢true, and-true, and-false, or-true}
+use mathlib.Core.Bool.{Bool, true, false, cond, _&&_, false≢true, and-true, and-false, or-true}
 use mathlib.Core.List.{List}
 use lib.Dec.{eqb, leb}
 use lib.ListN.{length}
@@ -24,9 +24,10 @@ use Rattle.quote.specs.Rows.{rowPlace}
 use Rattle.quote.specs.declared.QuoteRow.{QuoteRow}
 use Rattle.run.proofs.Tests.{both}
 use Rattle.day.specs.History.{isNew, isExecution, isMaker, isReplace}
-use Rattle.day.specs.Machine.{Found, nobody, found, find, isFound, place, differs, notOpen, notExecuted, seen, findRow, toQuote, rowNotExecuted, rowFull, refusalOf, withFigures, withPrice, newOrder}
+use Rattle.day.specs.Machine.{nobody, found, find, isFound, place, differs, notOpen, notExecuted, seen, findRow, toQuote, rowNotExecuted, rowFull, refusalOf, withFigures, withPrice, newOrder}
 use Rattle.day.specs.Machine.{none as unseen}
 use Rattle.day.specs.Quotes.{isFill}
+use Rattle.day.proofs.Letters.{new-unfilled, fill-unmade}
 use Rattle.day.specs.Refusals.{subject}
 use Rattle.slot.specs.Slots.{orderIn}
 use Rattle.slot.specs.Places.{slot, SlotInside}
@@ -87,15 +88,7 @@ module _ (s : List ℕ) (r : Record) where
 
   -- ---- the conditions, one after another
 
-  -- 02, 1: neither an A nor a line about an order belongs to a quote row
-  new-unfilled : (o : Found) (e : Event) → isNew e ≡ true → (isFill e && not (isFound o) && namesQuote (r .token)) ≡ false
-  new-unfilled o Accepted n = refl
-  new-unfilled o (Executed t) n = absurd (false≢true n)
-  new-unfilled o Cancelled n = absurd (false≢true n)
-  new-unfilled o (Broken t) n = absurd (false≢true n)
-  new-unfilled o Replaced n = absurd (false≢true n)
-  new-unfilled o Repriced n = absurd (false≢true n)
-
+  -- 02, 1: a line about an order belongs to no quote row
   of-order : {o : Order} → find (subject r) orders ≡ found o → toQuote r (find (subject r) orders) ≡ false
   of-order f = rw (f, and-false)
 
@@ -109,7 +102,7 @@ module _ (s : List ℕ) (r : Record) where
     module _ (b : (isMaker (r .event) && isFound (find (keyOf r) orders)) ≡ false) where
       module _ (n : isNew (r .event) ≡ true) where
         unfilled : toQuote r (find (subject r) orders) ≡ false
-        unfilled = new-unfilled (find (subject r) orders) (r .event) n
+        unfilled = rw (new-unfilled (r .event) n)
 
         pub full-of-new : leb (limitOf (length s)) (length orders) ≡ true → Plans s r (No Full)
         full-of-new f = refuses Full (rw (unfilled, a, b, n, f)) refl refl
@@ -159,15 +152,7 @@ module _ (s : List ℕ) (r : Record) where
             quoted = rw (f, and-true) x
 
             unmade : isMaker (r .event) ≡ false
-            unmade = go (r .event) (both (isFill (r .event)) (namesQuote (r .token)) x .0)
-              where
-                go : (e : Event) → isFill e ≡ true → isMaker e ≡ false
-                go Accepted q = absurd (false≢true q)
-                go (Executed t) q = refl
-                go Cancelled q = refl
-                go (Broken t) q = refl
-                go Replaced q = absurd (false≢true q)
-                go Repriced q = refl
+            unmade = fill-unmade (r .event) (both (isFill (r .event)) (namesQuote (r .token)) x .0)
 
             abbrev count : ℕ
             count = length quotes

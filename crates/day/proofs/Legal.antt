@@ -1,20 +1,20 @@
 -- Legal histories: no key is made twice, and whoever a line speaks of was made before.
 use mathlib.Core.Path.{_≡_, refl, sym, subst, _∙_}
 use mathlib.Core.Logic.{_⊎_, inl, inr}
-use mathlib.Core.Bool.{Bool, true, false, not, _&&_, false≢true, and-false, and-true, or-true}
+use mathlib.Core.Bool.{Bool, true, false, _&&_, false≢true, and-false, and-true, or-true}
 use mathlib.Core.List.{[], _∷_, List·Memᴰ, List·Memᴰ·not-nil, List·Memᴰ·append-cases, List·Memᴰ·eq-of-singleton}
 use Rattle.layout.specs.Line.{endOfDay, line}
 use Rattle.layout.specs.declared.Event.{Event}
-use Rattle.layout.specs.declared.Event.the-variants.{Accepted, Executed, Cancelled, Broken, Replaced, Repriced}
 use Rattle.layout.specs.declared.Record.{Record}
 use Rattle.order.specs.Names.{keyOf, elderKeyOf, sameKey}
 use Rattle.order.specs.declared.Key.{Key}
 use Rattle.quote.specs.Quotes.{quoteOf}
 use Rattle.day.specs.History.{History, isNew, isExecution, isReplace, isMaker, madeBy, replaces, sumOf, passedOf, linesThatMake, known}
-use Rattle.day.specs.Quotes.{isFill, belongs, hasRow}
+use Rattle.day.specs.Quotes.{belongs, hasRow}
 use Rattle.day.specs.Refusals.{subject}
 use Rattle.run.proofs.Tests.{neither}
 use Rattle.order.proofs.Sameness.{key-eq, key-comm, key-self}
+use Rattle.day.proofs.Letters.{replace-old, replace-unfilled}
 
 -- a line that may follow a history, as far as keys and quotes go
 pub record Follows (h : History) (r : Record) : Type 0 where
@@ -29,22 +29,6 @@ Legal (endOfDay ∷ h) = Legal h
 Legal (line r ∷ h) = Follows h r × Legal h
 
 -- ---- whom a line that follows speaks of
-
-replace-old : (e : Event) → isReplace e ≡ true → isNew e ≡ false
-replace-old Accepted q = absurd (false≢true q)
-replace-old (Executed t) q = refl
-replace-old Cancelled q = refl
-replace-old (Broken t) q = refl
-replace-old Replaced q = refl
-replace-old Repriced q = refl
-
-replace-unfilled : (e : Event) → isReplace e ≡ true → isFill e ≡ false
-replace-unfilled Accepted q = absurd (false≢true q)
-replace-unfilled (Executed t) q = absurd (false≢true q)
-replace-unfilled Cancelled q = absurd (false≢true q)
-replace-unfilled (Broken t) q = absurd (false≢true q)
-replace-unfilled Replaced q = refl
-replace-unfilled Repriced q = absurd (false≢true q)
 
 pub elder-known : (h : History) (r : Record) → Follows h r → isReplace (r .event) ≡ true → known (elderKeyOf r) h ≡ true
 elder-known h r f q = rw q at (f .named (replace-old (r .event) q) (rw (replace-unfilled (r .event) q)))

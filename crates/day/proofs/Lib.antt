@@ -1,4 +1,6 @@
 -- 1. Keys and lookup
+-- The letter of a line tells its event
+pub mod Letters
 -- Histories in which each key is made once, before its use
 pub mod Legal
 -- The first in a list that passes a test
@@ -8,7 +10,7 @@ pub mod Lookup
 -- 2. Checks
 -- A list of tests answers by the first that applies
 pub mod Chain
--- Tests 6 to 12 say what the refusals say of history
+-- Tests 6 to 13 say what the refusals say of history
 pub mod Checks
 -- 3. Steps
 -- A piece is accepted, or the table stays as it was

@@ -7,7 +7,6 @@ use mathlib.Core.Bool.{Bool, true, false, cond, not, _&&_, _||_, false≢true, a
 use mathlib.Core.List.{List, [], _∷_, _++_, map, map-append, List·Memᴰ, List·Memᴰ·not-nil, List·Memᴰ·append-cases, List·Memᴰ·eq-of-singleton}
 use Rattle.layout.specs.Line.{endOfDay, line}
 use Rattle.layout.specs.declared.Event.{Event}
-use Rattle.layout.specs.declared.Event.the-variants.{Accepted, Executed, Cancelled, Broken, Replaced, Repriced}
 use Rattle.layout.specs.declared.Record.{Record}
 use Rattle.order.specs.Names.{keyOf}
 use Rattle.order.specs.declared.Key.{Key}
@@ -17,12 +16,13 @@ use Rattle.quote.specs.declared.Quote.{Quote}
 use Rattle.quote.specs.declared.QuoteRow.{QuoteRow}
 use Rattle.quote.proofs.Sameness.{quote-self, quote-eq, quote-comm}
 use Rattle.run.proofs.Tests.{both, neither}
-use Rattle.day.specs.History.{History, isNew, isExecution, isBreak, isReplace, known, addIf, ordersOf}
+use Rattle.day.specs.History.{History, isExecution, isBreak, known, addIf, ordersOf}
 use Rattle.day.specs.Quotes.{isFill, belongs, ofQuote, fills, filledOf, hasRow, makesRow, quotesOf, quoteRowOf, quoteRowsOf}
 use Rattle.day.specs.Listing.{shownQuote}
 use Rattle.day.specs.Machine.{find, isFound, none, seen, isSeen, findRow, amendRow, toQuote, executeRow, bookFill, bookQuotes}
 use Rattle.day.specs.Refusals.{subject}
 use Rattle.day.proofs.Firsts.{Finds, Places, Amends, find-behind, amend-behind}
+use Rattle.day.proofs.Letters.{execution-unbroken, fill-replaces}
 use Rattle.day.proofs.Legal.{Follows, Legal}
 use Rattle.day.proofs.Lookup.{is-known}
 use Rattle.day.proofs.Steps.{map-same}
@@ -216,24 +216,8 @@ unfilled kind q (line r ∷ h) l n =
 
 -- ---- whom an E or C belongs to, by the orders
 
-fill-old : (e : Event) → isFill e ≡ true → isReplace e ≡ false
-fill-old Accepted q = absurd (false≢true q)
-fill-old (Executed t) q = refl
-fill-old Cancelled q = absurd (false≢true q)
-fill-old (Broken t) q = refl
-fill-old Replaced q = absurd (false≢true q)
-fill-old Repriced q = absurd (false≢true q)
-
-pub fill-new : (e : Event) → isFill e ≡ true → isNew e ≡ false
-fill-new Accepted q = absurd (false≢true q)
-fill-new (Executed t) q = refl
-fill-new Cancelled q = absurd (false≢true q)
-fill-new (Broken t) q = refl
-fill-new Replaced q = absurd (false≢true q)
-fill-new Repriced q = absurd (false≢true q)
-
 pub fill-subject : (r : Record) → isFill (r .event) ≡ true → subject r ≡ keyOf r
-fill-subject r q = rw (fill-old (r .event) q)
+fill-subject r q = rw (fill-replaces (r .event) q)
 
 pub to-quote : (h : History) (r : Record) → Legal h → toQuote r (find (subject r) (ordersOf h)) ≡ belongs h r
 to-quote h r l = go (isFill (r .event)) refl
@@ -255,14 +239,6 @@ executed-if false n w = refl
 broken-if : (t : Bool) (n : ℕ) (w : QuoteRow) → cond t (rowBrokenBy w n) w ≡ record { quote = w .quote; executed = w .executed; broken = addIf t n (w .broken) }
 broken-if true n w = refl
 broken-if false n w = refl
-
-not-broken : (e : Event) → isExecution e ≡ true → isBreak e ≡ false
-not-broken Accepted q = refl
-not-broken (Executed t) q = refl
-not-broken Cancelled q = refl
-not-broken (Broken t) q = absurd (false≢true q)
-not-broken Replaced q = refl
-not-broken Repriced q = refl
 
 fill-broken : (e : Event) → isFill e ≡ true → isExecution e ≡ false → isBreak e ≡ true
 fill-broken e q n = rw n at q
@@ -293,7 +269,7 @@ module _ (h : History) (r : Record) (l : Legal h) (f : Follows h r) where
       → amendRow q (λ w. rowExecutedBy w n) (quoteRowsOf h) ≡ quoteRowsOf (line r ∷ h)
   executed-again b e row =
       amend-made h q (λ w. rowExecutedBy w n) h
-      ∙ kept-rows _ (rw (row, and-false)) (λ x. rw (b, not-broken (r .event) e, e, quote-comm x q) (executed-if (sameQuote q x) n (quoteRowOf h x)))
+      ∙ kept-rows _ (rw (row, and-false)) (λ x. rw (b, execution-unbroken (r .event) e, e, quote-comm x q) (executed-if (sameQuote q x) n (quoteRowOf h x)))
 
   executed-first : belongs h r ≡ true → isExecution (r .event) ≡ true → hasRow q h ≡ false
       → quoteRowsOf h ++ (newRow q n ∷ []) ≡ quoteRowsOf (line r ∷ h)
@@ -315,7 +291,7 @@ module _ (h : History) (r : Record) (l : Legal h) (f : Follows h r) where
       older x i = unadded x (rw (other x i, and-false))
 
       new : newRow q n ≡ quoteRowOf (line r ∷ h) q
-      new = rw (b, not-broken (r .event) e, e, quote-self q, unfilled isExecution q h l row, unfilled isBreak q h l row, zero-add n)
+      new = rw (b, execution-unbroken (r .event) e, e, quote-self q, unfilled isExecution q h l row, unfilled isBreak q h l row, zero-add n)
 
   broken-row : belongs h r ≡ true → isExecution (r .event) ≡ false → amendRow q (λ w. rowBrokenBy w n) (quoteRowsOf h) ≡ quoteRowsOf (line r ∷ h)
   broken-row b e =

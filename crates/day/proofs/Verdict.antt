@@ -18,7 +18,7 @@ use Rattle.quote.specs.Quotes.{namesQuote}
 use Rattle.quote.specs.declared.QuoteRow.{QuoteRow}
 use Rattle.day.specs.Demand3.{joined}
 use Rattle.day.specs.History.{History, known}
-use Rattle.day.specs.Quotes.{isFill, belongs}
+use Rattle.day.specs.Quotes.{isFill}
 use Rattle.day.specs.Machine.{refusalOf, accept, bookSaid, bookRead, book}
 use Rattle.day.specs.Tables.{Table, withOrders, withQuotes, Booked}
 use Rattle.day.specs.Refusals.{rules, NoneOf, FirstOf}
@@ -27,7 +27,8 @@ use Rattle.day.proofs.Checks.{said-judged}
 use Rattle.run.proofs.Tests.{both}
 use Rattle.day.proofs.Legal.{Follows, Legal}
 use Rattle.day.proofs.Lookup.{dayOf}
-use Rattle.day.proofs.Quotes.{fill-new, fill-subject, filled}
+use Rattle.day.proofs.Letters.{fill-old}
+use Rattle.day.proofs.Quotes.{fill-subject, filled}
 use Rattle.day.proofs.Steps.{booked}
 
 -- booking what a piece says, by whether no test refuses it
@@ -72,7 +73,7 @@ module _ (limit : ℕ) (h : History) (l : Legal h) (p : List ℕ) where
             λ b x.
             let (fill, others) = both (isFill (r .event)) (not (known (keyOf r) h)) (both (isFill (r .event) && not (known (keyOf r) h)) (namesQuote (r .token)) b .0) in
             let unknown = ap (λ (k : Key). known k h) (fill-subject r fill) ∙ not-true (known (keyOf r) h) others in
-            not-eq-not {b = true} .0 (λ k. none-of 8 (rules limit h p) n (line r, e, (fill-new (r .event) fill, unknown, rw (k, b, x))));
+            not-eq-not {b = true} .0 (λ k. none-of 8 (rules limit h p) n (line r, e, (fill-old (r .event) fill, unknown, rw (k, b, x))));
       }
 
   -- what is accepted joins the history
