@@ -12,6 +12,9 @@ pub use sound::sound_row;
 
 pub const MOST_ROWS: usize = 128;
 
+// The characters of an id, at the front of the token.
+pub const ID: usize = 16;
+
 pub const MOST_EXECUTED: u64 = 4_294_967_295;
 
 // A row stands for each of these. The token of the key holds the id, in its sixteen characters.

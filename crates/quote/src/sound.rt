@@ -2,16 +2,15 @@
 ghost use mathlib.Core.Path.{_≡_};
 ghost use lib.ListN.{length};
 ghost use Rattle.quote.specs.Quotes.{lawfulQuote, namesQuote, soundRow};
+use crate::ID;
 use crate::MOST_EXECUTED;
 use crate::Quote;
 use crate::QuoteRow;
 use field::Class;
 use field::verbatim;
 
-// A token in bytes, and the characters of the id at its front.
+// A token in bytes.
 const TOKEN: usize = 20;
-
-const ID: usize = 16;
 
 pub fn names_quote(token: &[u8]) -> bool
     requires { ⌜ length (now token) ≡ 20 ⌝ }

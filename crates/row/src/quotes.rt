@@ -8,12 +8,10 @@ ghost use Rattle.row.specs.Texts.{fillsText, lineText, quoteText};
 ghost use Rattle.row.specs.Writes.{Put, Wrote};
 use crate::decimal;
 use crate::put_column;
+use quote::ID;
 use quote_slot::ROW;
 use quote_slot::offset;
 use slot::offset::TOKEN;
-
-// The characters of an id, at the front of the Token.
-const ID: usize = 16;
 
 // All before the Source. A function of its own, since the prover reads only so many facts of one.
 fn put_fills(out: &mut [u8], id: &[u8], executed: u64, broken: u64) -> usize
