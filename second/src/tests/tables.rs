@@ -258,17 +258,19 @@ fn headers_are_judged() -> bool {
         && (0..=255).all(|count| row_count_of_full(count) == (count <= 128))
 }
 
-fn fields_are_judged() -> bool {
-    let texts = [0, 6, 27].iter().all(|part| {
-        let first = |byte| sound_at(2, *part, &[byte]);
-        let inner = |byte| sound_at(2, part + 1, &[byte]);
+/// The rules that a slot and a quote row share. `sound` says whether a table is sound with other bytes from a place of one on; the
+/// texts begin at these places.
+fn shared_fields_are_judged(texts: &[usize], sound: impl Fn(usize, &[u8]) -> bool) -> bool {
+    let texts = texts.iter().all(|part| {
+        let first = |byte| sound(*part, &[byte]);
+        let inner = |byte| sound(part + 1, &[byte]);
         (0..=255)
             .all(|byte| first(byte) == (0x21..=0x7E).contains(&byte) && inner(byte) == (0x20..=0x7E).contains(&byte))
     });
     let codes = [(26, b'B'..=b'B'), (33, b'A'..=b'X'), (34, 1..=31), (35, 0..=99)].into_iter().all(|(part, lawful)| {
-        (0..=255).all(|byte| sound_at(2, part, &[byte]) == (lawful.contains(&byte) || part == 26 && byte == b'S'))
+        (0..=255).all(|byte| sound(part, &[byte]) == (lawful.contains(&byte) || part == 26 && byte == b'S'))
     });
-    let strike = |code: u8, strike: u32| sound_at(2, 36, &[&[code][..], &strike.to_le_bytes()].concat());
+    let strike = |code: u8, strike: u32| sound(36, &[&[code][..], &strike.to_le_bytes()].concat());
     let strikes = (0..=255).all(|code: u8| {
         let known = (b'A'..=b'E').contains(&code);
         let small = code == b'E';
@@ -276,9 +278,14 @@ fn fields_are_judged() -> bool {
             && [100_000, 999_999].iter().all(|digits| strike(code, *digits) == known)
             && ![0, 1_000_000, 1 << 24 | 205_750, u32::MAX].iter().any(|digits| strike(code, *digits))
     });
+    texts && codes && strikes
+}
+
+fn fields_are_judged() -> bool {
     let price = |price: u64| sound_at(2, 41, &price.to_le_bytes());
-    let lawful_prices = [0, 1, 9_999_999_999].into_iter().all(price);
-    texts && codes && strikes && lawful_prices && ![10_000_000_000, 1 << 63, u64::MAX].into_iter().any(price)
+    shared_fields_are_judged(&[0, 6, 27], |part, bytes| sound_at(2, part, bytes))
+        && [0, 1, 9_999_999_999].into_iter().all(price)
+        && ![10_000_000_000, 1 << 63, u64::MAX].into_iter().any(price)
 }
 
 fn figures_are_judged() -> bool {
@@ -335,28 +342,11 @@ fn sound_in_row(place: usize, part: usize, bytes: &[u8]) -> bool {
 }
 
 fn row_fields_are_judged() -> bool {
-    let texts = [0, 27].iter().all(|part| {
-        let first = |byte| sound_in_row(2, *part, &[byte]);
-        let inner = |byte| sound_in_row(2, part + 1, &[byte]);
-        (0..=255)
-            .all(|byte| first(byte) == (0x21..=0x7E).contains(&byte) && inner(byte) == (0x20..=0x7E).contains(&byte))
-    });
     let hex = |byte: u8| byte.is_ascii_digit() || (b'A'..=b'F').contains(&byte);
     let ids = (6..26).all(|part| {
         (0..=255).all(|byte| sound_in_row(2, part, &[byte]) == if part < 22 { hex(byte) } else { byte == b' ' })
     });
-    let codes = [(26, b'B'..=b'B'), (33, b'A'..=b'X'), (34, 1..=31), (35, 0..=99)].into_iter().all(|(part, lawful)| {
-        (0..=255).all(|byte| sound_in_row(2, part, &[byte]) == (lawful.contains(&byte) || part == 26 && byte == b'S'))
-    });
-    let strike = |code: u8, strike: u32| sound_in_row(2, 36, &[&[code][..], &strike.to_le_bytes()].concat());
-    let strikes = (0..=255).all(|code: u8| {
-        let known = (b'A'..=b'E').contains(&code);
-        let small = code == b'E';
-        [1, 99_999].iter().all(|digits| strike(code, *digits) == small)
-            && [100_000, 999_999].iter().all(|digits| strike(code, *digits) == known)
-            && ![0, 1_000_000, 1 << 24 | 205_750, u32::MAX].iter().any(|digits| strike(code, *digits))
-    });
-    texts && ids && codes && strikes
+    ids && shared_fields_are_judged(&[0, 27], |part, bytes| sound_in_row(2, part, bytes))
 }
 
 fn row_figures_are_judged() -> bool {
