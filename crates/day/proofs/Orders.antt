@@ -100,11 +100,11 @@ module _ {k : Key} (f : Order → Order) where
 pub length-elders : (os : List Order) → length (eldersOf os) ≡ length os
 length-elders os = length-map os (λ (o : Order). o .elder)
 
-elder-test : (e : ℕ) (t : Bool) → (1 ≤ e → t ≡ true) → (eqb e 0 || t) ≡ true
+pub elder-test : (e : ℕ) (t : Bool) → (1 ≤ e → t ≡ true) → (eqb e 0 || t) ≡ true
 elder-test zero t h = refl
 elder-test (suc e) t h = rw (h (omega arith), or-true)
 
-elder-tested : (e : ℕ) (t : Bool) → (eqb e 0 || t) ≡ true → 1 ≤ e → t ≡ true
+pub elder-tested : (e : ℕ) (t : Bool) → (eqb e 0 || t) ≡ true → 1 ≤ e → t ≡ true
 elder-tested zero t h p = absurd (omega arith)
 elder-tested (suc e) t h p = rw eqb·suc-zero at h
 
@@ -119,13 +119,13 @@ pub sole-member : (e : ℕ) (es : List ℕ) → sole e es ≡ true → 1 ≤ e �
 sole-member e es s p = not-true (member e es) (elder-tested e (not (member e es)) s p)
 
 -- an elder at which nothing is open
-abbrev shut : List Order → ℕ → Bool
+abbrev pub shut : List Order → ℕ → Bool
 shut os e = eqb e 0 || eqb (openAt os (e - 1)) 0
 
-open-shut : (os : List Order) (e : ℕ) → (1 ≤ e → openAt os (e - 1) ≡ 0) → shut os e ≡ true
+pub open-shut : (os : List Order) (e : ℕ) → (1 ≤ e → openAt os (e - 1) ≡ 0) → shut os e ≡ true
 open-shut os e h = elder-test e (eqb (openAt os (e - 1)) 0) (λ p. eq-eqb (openAt os (e - 1)) 0 (h p))
 
-shut-open : (os : List Order) (e : ℕ) → shut os e ≡ true → 1 ≤ e → openAt os (e - 1) ≡ 0
+pub shut-open : (os : List Order) (e : ℕ) → shut os e ≡ true → 1 ≤ e → openAt os (e - 1) ≡ 0
 shut-open os e s p = eqb-true (openAt os (e - 1)) 0 (elder-tested e (eqb (openAt os (e - 1)) 0) s p)
 
 -- elders that had nothing open still have nothing open
@@ -182,7 +182,7 @@ sound-behind (x ∷ os) o h a =
     let b = both (soundOrder x) (allSound os) a in
     rw (b .0) (sound-behind os o h (b .1))
 
-pub openAt-behind : (os : List Order) (o : Order) (i : ℕ) → i < length os → openAt (os ++ (o ∷ [])) i ≡ openAt os i
-openAt-behind [] o i h = absurd (omega arith)
-openAt-behind (x ∷ os) o zero h = refl
-openAt-behind (x ∷ os) o (suc i) h = openAt-behind os o i (omega arith)
+pub openAt-behind : (os more : List Order) (i : ℕ) → i < length os → openAt (os ++ more) i ≡ openAt os i
+openAt-behind [] more i h = absurd (omega arith)
+openAt-behind (x ∷ os) more zero h = refl
+openAt-behind (x ∷ os) more (suc i) h = openAt-behind os more i (omega arith)

@@ -97,12 +97,12 @@ behind {os = os} o u room elder unclaimed shut s =
     let now = os ++ (o ∷ []) in
     let n = length-elders os in
     let one-more : eldersOf now ≡ es ++ (o .elder ∷ []) = map-append (λ (x : Order). x .elder) os (o ∷ []) in
-    let kept = still-closed os now (λ i l z. openAt-behind os o i l ∙ z) 0 es (omega arith) (u .early) (u .shut) in
+    let kept = still-closed os now (λ i l z. openAt-behind os (o ∷ []) i l ∙ z) 0 es (omega arith) (u .early) (u .shut) in
     record {
       fits = rw length-append (omega arith);
       early = rw one-more (earlier-behind 0 es (o .elder) (omega arith) (u .early));
       alone = rw one-more (unshared-behind es (o .elder) unclaimed (u .alone));
-      shut = rw one-more (closed-behind now es (o .elder) (λ p. openAt-behind os o (o .elder - 1) (omega arith) ∙ shut p) kept);
+      shut = rw one-more (closed-behind now es (o .elder) (λ p. openAt-behind os (o ∷ []) (o .elder - 1) (omega arith) ∙ shut p) kept);
       sound = sound-behind os o s (u .sound);
     }
 
