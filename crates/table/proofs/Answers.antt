@@ -1,13 +1,12 @@
 -- What the tests of the damage check say of its answer, over plain variables: one law for each way out.
-use Prim.Native.Nat.{ℕ, _-_, _≤_, _<_}
+use Prim.Native.Nat.{ℕ, _≤_, _<_}
 use native.Mathlib.Omega.{arith}
 use mathlib.Core.Path.{_≡_, refl, sym, ap, _∙_}
-use mathlib.Core.Bool.{Bool, true, false, not, _&&_, and-false, false≢true}
+use mathlib.Core.Bool.{Bool, true, false, not, _&&_, false≢true}
 use mathlib.Core.List.{List}
 use borrow.Author.Tests.{lt-ltb, le-leb, lt-leb, eq-eqb, ne-eqb, not-true, not-false}
-use lib.Dec.{eqb}
 use lib.ListN.{length, getD}
-use Rattle.table.specs.Passing.{isMarked, openIn, elderFits}
+use Rattle.table.specs.Passing.{isMarked, mayFollow}
 use Rattle.table.specs.Tables.{limitOf, countIn, headerSound, slotsSound, rowsSound, sound}
 use Rattle.table.proofs.Sound.{sound-apart}
 
@@ -21,19 +20,15 @@ upheld r t e h = sym e ∙ not-false r h
 
 -- ---- an elder
 
-module _ (s flags : List ℕ) (i e : ℕ) where
-  pub not-earlier : i < e → false ≡ elderFits s flags i e
+module _ (flags : List ℕ) (i e : ℕ) where
+  pub not-earlier : i < e → false ≡ mayFollow flags i e
   not-earlier h = rw (lt-leb e i h)
 
-  pub no-elder : e ≤ i → e ≡ 0 → true ≡ elderFits s flags i e
+  pub no-elder : e ≤ i → e ≡ 0 → true ≡ mayFollow flags i e
   no-elder h z = rw (le-leb e i h, eq-eqb e 0 z)
 
-  pub claimed : (e ≡ 0 → ⊥) → isMarked flags e ≡ true → false ≡ elderFits s flags i e
-  claimed z m = rw (ne-eqb e 0 z, m, and-false)
-
-  pub unclaimed : (n : ℕ) → e ≤ i → (e ≡ 0 → ⊥) → isMarked flags e ≡ false → n ≡ openIn s (e - 1)
-      → eqb n 0 ≡ elderFits s flags i e
-  unclaimed n h z m q = ap (λ x. eqb x 0) q ∙ rw (le-leb e i h, ne-eqb e 0 z, m)
+  pub some-elder : (r : Bool) → e ≤ i → (e ≡ 0 → ⊥) → r ≡ isMarked flags e → not r ≡ mayFollow flags i e
+  some-elder r h z q = ap not q ∙ rw (le-leb e i h, ne-eqb e 0 z)
 
 -- ---- a table
 

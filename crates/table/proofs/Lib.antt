@@ -14,6 +14,8 @@ pub mod Sound
 pub mod Marking
 -- What holds of all orders holds of one among them
 pub mod Splits
+-- What a pass over orders keeps from order to order
+pub mod Following
 -- What the damage check keeps from slot to slot
 pub mod Passes
 -- What it keeps from quote row to quote row

@@ -1,8 +1,7 @@
--- The first orders of a table, and what the tests of damage say of one order among them.
-use Prim.Native.Nat.{ℕ, zero, suc, _+_, _-_, _≤_, _<_}
-use native.Mathlib.Nat.{zero-add, suc-add}
+-- What the tests of damage say of one order among others.
+use Prim.Native.Nat.{ℕ, _+_, _≤_}
 use native.Mathlib.Omega.{arith}
-use mathlib.Core.Path.{_≡_, refl, ap}
+use mathlib.Core.Path.{_≡_, refl}
 use mathlib.Core.Bool.{Bool, true, false, not, _||_, or-true}
 use mathlib.Core.List.{List, [], _∷_, _++_}
 use borrow.Author.Tests.{leb-true, eqb-true, eq-eqb}
@@ -10,27 +9,10 @@ use lib.Dec.{leb, eqb}
 use lib.ListN.{length}
 use Rattle.run.specs.Runs.{member}
 use Rattle.order.specs.declared.Order.{Order}
-use Rattle.day.specs.Damage.{allSound, earlier, unshared, openAt, closed}
+use Rattle.day.specs.Damage.{allSound, earlier, unshared, closed}
 use Rattle.order.specs.Stored.{soundOrder}
 use Rattle.run.proofs.Tests.{both}
-use Rattle.day.proofs.Orders.{sole}
-use Rattle.table.specs.Passing.{openIn}
-use Rattle.slot.specs.Slots.{orderIn}
-use Rattle.slot.specs.Places.{ordersIn, slot}
-
--- ---- the orders that slots say
-
-pub open-orders : (k n : ℕ) (s : List ℕ) (i p : ℕ) → i < n → p ≡ k + i → openAt (ordersIn k n s) i ≡ openIn s p
-open-orders k zero s i p h e = absurd (omega arith)
-open-orders k (suc n) s zero p h e = let q : p ≡ k = omega arith in rw q
-open-orders k (suc n) s (suc i) p h e = open-orders (k + 1) n s i p (omega arith) (omega arith)
-
--- the order at place p, behind i others and before m
-pub orders-at : (k i m p : ℕ) (s : List ℕ) → p ≡ k + i → ordersIn k (i + suc m) s ≡ ordersIn k i s ++ (orderIn (slot s p) ∷ ordersIn (p + 1) m s)
-orders-at k zero m p s e = let q : p ≡ k = omega arith in rw (q, zero-add)
-orders-at k (suc i) m p s e = rw (suc-add i (suc m)) (ap (λ (os : List Order). orderIn (slot s k) ∷ os) (orders-at (k + 1) i m p s (omega arith)))
-
--- ---- one order among others
+use Rattle.day.proofs.Orders.{sole, shut}
 
 pub sound-among : (xs : List Order) (o : Order) (ys : List Order) → allSound (xs ++ (o ∷ ys)) ≡ true → soundOrder o ≡ true
 sound-among [] o ys a = both (soundOrder o) (allSound ys) a .0
@@ -42,10 +24,10 @@ earlier-among k (x ∷ xs) e ys a =
     omega (arith, earlier-among (k + 1) xs e ys (both (leb x k) (earlier (k + 1) (xs ++ (e ∷ ys))) a .1))
 
 pub closed-among : (os : List Order) (xs : List ℕ) (e : ℕ) (ys : List ℕ) → closed os (xs ++ (e ∷ ys)) ≡ true
-    → (eqb e 0 || eqb (openAt os (e - 1)) 0) ≡ true
-closed-among os [] e ys c = both (eqb e 0 || eqb (openAt os (e - 1)) 0) (closed os ys) c .0
+    → shut os e ≡ true
+closed-among os [] e ys c = both (shut os e) (closed os ys) c .0
 closed-among os (x ∷ xs) e ys c =
-    closed-among os xs e ys (both (eqb x 0 || eqb (openAt os (x - 1)) 0) (closed os (xs ++ (e ∷ ys))) c .1)
+    closed-among os xs e ys (both (shut os x) (closed os (xs ++ (e ∷ ys))) c .1)
 
 member-among : (xs : List ℕ) (e : ℕ) (ys : List ℕ) → member e (xs ++ (e ∷ ys)) ≡ true
 member-among [] e ys = rw (eq-eqb e e refl)

@@ -2,13 +2,13 @@
 ghost use Prim.Native.Nat.{_≤_, _<_};
 ghost use mathlib.Core.Path.{_≡_};
 ghost use lib.ListN.{length};
-ghost use Rattle.table.specs.Passing.{elderFits, roomIn, slotFits};
+ghost use Rattle.table.specs.Passing.{slotFits};
 ghost use Rattle.quote.specs.Rows.{allRowsSound};
 ghost use Rattle.slot.specs.Places.{SlotInside};
 ghost use Rattle.quote_slot.specs.QuoteSlots.{rowAt, rowsIn};
 ghost use Rattle.table.specs.Tables.{countIn, limitOf, rowsSound, slotsSound, sound};
-use crate::FLAGS;
-use crate::flags;
+use crate::elders;
+use crate::elders::FLAGS;
 use crate::header;
 use order::Order;
 use slot::HEADER;
@@ -23,25 +23,7 @@ fn sound_slot(t: &[u8], i: usize, o: Order) -> bool
     run::zeros(t, HEADER + SLOT * i + offset::REST, 5) & order::sound_order(o)
 }
 
-// The elder's slot is read only once it is known to be an earlier one.
-fn sound_elder(t: &[u8], flags: &[u8], i: usize, e: usize) -> bool
-    requires { ⌜ SlotInside i (now t) ⌝ }
-    requires { ⌜ i < roomIn (now flags) ⌝ }
-    ensures { λ r. ⌜ r ≡ elderFits (now (t .entry)) (now (flags .entry)) i e ⌝ }
-{
-    if i < e {
-        return false;
-    }
-    if e == 0 {
-        return true;
-    }
-    if flags::marked(flags, e) {
-        return false;
-    }
-    slot::open_at(t, e - 1) == 0
-}
-
-// One pass over the slots in use. The elders of those that it has seen are marked.
+// One pass over the slots in use. Of those that it has seen, the numbers that no later order may have as its elder are marked.
 fn sound_slots(t: &[u8], n: usize) -> bool
     requires { ⌜ n ≡ countIn (now t) ⌝ }
     requires { ⌜ n ≤ limitOf (length (now t)) ⌝ }
@@ -52,13 +34,14 @@ fn sound_slots(t: &[u8], n: usize) -> bool
     while i < n {
         let o = slot::order_at(t, i);
         let e = o.elder as usize;
+        let open = o.figures.open;
         if !sound_slot(t, i, o) {
             return false;
         }
-        if !sound_elder(t, &flags, i, e) {
+        if !elders::follows(&flags, i, e) {
             return false;
         }
-        flags::mark(&mut flags, e);
+        elders::pass(&mut flags, i, e, open);
         i += 1;
     }
     true

@@ -1,4 +1,4 @@
-// One flag for each number that an elder can have: 0 for none, above it those of the orders that another one follows.
+// Flags, each of a number: up, or not.
 ghost use Prim.Native.Nat.{_<_};
 ghost use mathlib.Core.Path.{_≡_};
 ghost use Rattle.table.specs.Passing.{Marks, isMarked, roomIn};

@@ -1,6 +1,7 @@
 // The lent table: its header, the empty table, one order more, its quote rows, the damage check, and what a host asks of it.
 mod asked;
 pub mod damage;
+pub mod elders;
 mod empty;
 mod flags;
 pub mod header;
@@ -24,9 +25,6 @@ pub const LIMIT: u64 = 512;
 pub const TABLE: usize = slot::HEADER
     + slot::SLOT * LIMIT as usize
     + quote_slot::ROW * quote::MOST_ROWS;
-
-// A flag for each number that an elder can have.
-const FLAGS: usize = LIMIT as usize;
 
 // The answer of a lookup for a host.
 pub enum Found {

@@ -1,4 +1,4 @@
--- `table::damage::sound_slots` meets its contract: the slots passed are undamaged and their elders marked; one that does not fit damages all.
+-- `table::damage::sound_slots` meets its contract: the orders of the slots passed are undamaged and seen; a slot that does not fit damages all.
 use Prim.Native.Nat.{_-_}
 use mathlib.Core.Path.{refl}
 use native.Mathlib.Omega.{arith}
@@ -29,27 +29,29 @@ returns c =
     slot-stops (c .before .before .before .before .loop .inv) (omega arith) (c .before .before .order-at .ensures)
     (refuted _ _ (c .before .sound-slot .ensures) (c .if1 .taken))
 
-slice-aggregate-sound-elder : tie.Need-slice-aggregate-sound-elder Inv-loop μ-loop
-slice-aggregate-sound-elder c = search needs
+slice-aggregate-follows : tie.Need-slice-aggregate-follows Inv-loop μ-loop
+slice-aggregate-follows c = search needs
 
-sound-elder-requires : tie.Need-sound-elder-requires Inv-loop μ-loop
-sound-elder-requires c κs = (
-  slot-inside _ (c .before .before .before .before .before .loop .i) (omega arith),
-  place-inside (c .before .before .before .before .before .loop .inv) (omega arith) (c .before .before .before .order-at .ensures) (omega arith),
-)
+follows-requires : tie.Need-follows-requires Inv-loop μ-loop
+follows-requires c κs =
+    let inside = place-inside (c .before .before .before .before .before .loop .inv) (omega arith) (c .before .before .before .order-at .ensures) (omega arith) in
+    omega arith
 
 returns-2 : tie.Need-returns-2 Inv-loop μ-loop
 returns-2 c =
     elder-stops (c .before .before .before .before .before .before .before .loop .inv) (omega arith) (c .before .before .before .before .before .order-at .ensures)
-    (refuted _ _ (c .before .sound-elder .ensures) (c .if2 .taken))
+    (refuted _ _ (c .before .follows .ensures) (c .if2 .taken))
 
-slice-aggregate-mark : tie.Need-slice-aggregate-mark Inv-loop μ-loop
-slice-aggregate-mark c = search needs
+slice-aggregate-pass : tie.Need-slice-aggregate-pass Inv-loop μ-loop
+slice-aggregate-pass c = search needs
 
-mark-requires : tie.Need-mark-requires Inv-loop μ-loop
-mark-requires c κs =
-    elder-inside (c .before .before .before .before .before .before .before .before .loop .inv) (omega arith) (c .before .before .before .before .before .before .order-at .ensures) (omega arith)
-    (upheld _ _ (c .before .before .sound-elder .ensures) (c .before .if2 .left))
+pass-requires : tie.Need-pass-requires Inv-loop μ-loop
+pass-requires c κs =
+    let passed = c .before .before .before .before .before .before .before .before .loop .inv in
+    let its = c .before .before .before .before .before .before .order-at .ensures in (
+      elder-inside passed (omega arith) its (omega arith) (upheld _ _ (c .before .before .follows .ensures) (c .before .if2 .left)),
+      place-inside passed (omega arith) its (omega arith),
+    )
 
 add-i : tie.Need-add-i Inv-loop μ-loop
 add-i c = search needs
@@ -61,8 +63,8 @@ loop-again : tie.Need-loop-again Inv-loop μ-loop
 loop-again c =
     one-passed (c .before .before .before .before .before .before .before .before .before .before .loop .inv) (omega arith) (c .before .before .before .before .before .before .before .before .order-at .ensures) (omega arith)
     (upheld _ _ (c .before .before .before .before .before .before .before .sound-slot .ensures) (c .before .before .before .before .before .before .if1 .left))
-    (upheld _ _ (c .before .before .before .before .sound-elder .ensures) (c .before .before .before .if2 .left))
-    (c .before .mark .ensures)
+    (upheld _ _ (c .before .before .before .before .follows .ensures) (c .before .before .before .if2 .left))
+    (c .before .pass .ensures)
 
 returns-3 : tie.Need-returns-3 Inv-loop μ-loop
 returns-3 c = all-passed _ _ (c .before .loop .i) (omega arith) (c .before .loop .inv)
@@ -77,11 +79,11 @@ sound-slots-spec =
     order-at-requires
     sound-slot-requires
     returns
-    slice-aggregate-sound-elder
-    sound-elder-requires
+    slice-aggregate-follows
+    follows-requires
     returns-2
-    slice-aggregate-mark
-    mark-requires
+    slice-aggregate-pass
+    pass-requires
     add-i
     loop-less
     loop-again
