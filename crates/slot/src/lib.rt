@@ -14,7 +14,6 @@ pub use read::asked_at;
 pub use read::elder_at;
 pub use read::figures_in;
 pub use read::key_in;
-pub use read::open_at;
 pub use read::order_at;
 pub use read::series_in;
 pub use write::put_key;

@@ -106,11 +106,3 @@ pub fn elder_at(t: &[u8], i: usize) -> u64
 {
     cell::get(t, HEADER + SLOT * i + offset::ELDER, 2)
 }
-
-// What is open alone, for the damage check: it asks that of every elder.
-pub fn open_at(t: &[u8], i: usize) -> u64
-    requires { ⌜ SlotInside i (now t) ⌝ }
-    ensures { λ r. ⌜ r ≡ orderIn (slot (now (t .entry)) i) .figures .«open» ⌝ }
-{
-    cell::get(t, HEADER + SLOT * i + offset::OPEN, 4)
-}
