@@ -33,7 +33,7 @@ code-form codes [] e = absurd (false≢true e)
 code-form codes (b ∷ []) e = refl
 code-form codes (b ∷ c ∷ s) e = absurd (false≢true e)
 
-all-spaces : (b : List ℕ) → isBlank b ≡ true → replicate (length b) 32 ≡ b
+pub all-spaces : (b : List ℕ) → isBlank b ≡ true → replicate (length b) 32 ≡ b
 all-spaces [] e = refl
 all-spaces (b ∷ s) e =
     let h = both (eqb b 32) (isBlank s) e in

@@ -8,6 +8,22 @@ use lib.Dec.{eqb}
 pub both : (a b : Bool) → (a && b) ≡ true → (a ≡ true) × (b ≡ true)
 both a b = and-eq-true-iff a b .0
 
+-- the tests of a chain
+pub five : (a b c d e : Bool) → (a && b && c && d && e) ≡ true → (a ≡ true) × (b ≡ true) × (c ≡ true) × (d ≡ true) × (e ≡ true)
+five a b c d e h =
+    let p = both (a && b && c && d) e h in
+    let q = both (a && b && c) d (p .0) in
+    let r = both (a && b) c (q .0) in
+    let t = both a b (r .0) in
+    (t .0, t .1, r .1, q .1, p .1)
+
+pub six : (a b c d e f : Bool) → (a && b && c && d && e && f) ≡ true
+    → (a ≡ true) × (b ≡ true) × (c ≡ true) × (d ≡ true) × (e ≡ true) × (f ≡ true)
+six a b c d e f h =
+    let p = both (a && b && c && d && e) f h in
+    let q = five a b c d e (p .0) in
+    (q .0, q .1, q .2, q .3, q .4, p .1)
+
 pub either : (a b : Bool) {P : Type 0} → (a ≡ true → P) → (b ≡ true → P) → (a || b) ≡ true → P
 either true b f g e = f refl
 either false b f g e = g e

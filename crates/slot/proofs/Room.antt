@@ -2,14 +2,14 @@
 use Prim.Native.Nat.{ℕ, _^_, _<_}
 use native.Mathlib.Omega.{arith}
 use mathlib.Core.Path.{_≡_, refl}
-use mathlib.Core.Bool.{Bool, true, _&&_}
+use mathlib.Core.Bool.{true}
 use mathlib.Core.List.{List}
 use borrow.Author.Tests.{lt-ltb, ltb-true}
 use Rattle.field.specs.Byte.{isOf}
 use Rattle.field.specs.declared.Class.the-variants.{Printable}
 use Rattle.message.specs.Rule.{Kind, code, verbatim, text, run, lawful, fits}
 use Rattle.message.specs.Values.{one}
-use Rattle.run.proofs.Tests.{both}
+use Rattle.run.proofs.Tests.{both, five, six}
 use Rattle.run.proofs.All.{all-wider}
 use Rattle.field.proofs.Fill.{between}
 use Rattle.message.proofs.Rules.{writes-reads, writes-printable}
@@ -31,22 +31,6 @@ run-fits kind w s l = (
 
 pub code-fits : (codes : List ℕ) (b : ℕ) → fits (code codes) 1 ≡ true → lawful (code codes) 1 (one b) ≡ true → b < 256
 code-fits codes b k l = printable-byte b (both (isOf Printable b) true (writes-printable (code codes) 1 (one b) k l) .0)
-
--- the tests of a chain
-five : (a b c d e : Bool) → (a && b && c && d && e) ≡ true → (a ≡ true) × (b ≡ true) × (c ≡ true) × (d ≡ true) × (e ≡ true)
-five a b c d e h =
-    let p = both (a && b && c && d) e h in
-    let q = both (a && b && c) d (p .0) in
-    let r = both (a && b) c (q .0) in
-    let t = both a b (r .0) in
-    (t .0, t .1, r .1, q .1, p .1)
-
-six : (a b c d e f : Bool) → (a && b && c && d && e && f) ≡ true
-    → (a ≡ true) × (b ≡ true) × (c ≡ true) × (d ≡ true) × (e ≡ true) × (f ≡ true)
-six a b c d e f h =
-    let p = both (a && b && c && d && e) f h in
-    let q = five a b c d e (p .0) in
-    (q .0, q .1, q .2, q .3, q .4, p .1)
 
 -- a series that has room
 abbrev SeriesFits : Series → Type 0
