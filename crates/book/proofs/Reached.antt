@@ -10,32 +10,32 @@ use Rattle.day.specs.Tables.{Table}
 use Rattle.day.specs.Machine.{book as bookDay}
 use Rattle.table.specs.Tables.{limitOf, tableIn, sound}
 use Rattle.table.proofs.Making.{empty-holds, empty-sound}
-use Rattle.book.specs.Bytes.{bookAnswer, bytesAfter}
-use Rattle.book.proofs.Lengths.{day-length}
+use Rattle.book.specs.Bytes.{bookBytes, bookAnswer, bytesAfter}
+use Rattle.book.proofs.Lengths.{booked-length, day-length}
 use Rattle.book.proofs.Machine.{booked-table, booked-answer, booked-sound}
 
-module _ (before : List ℕ) (meant : 0 < limitOf (length before)) where
-  abbrev limit : ℕ
-  limit = limitOf (length before)
+-- bytes that say the table of a day: nothing is asked of how they came about
+pub record Reached (limit : ℕ) (ps : List (List ℕ)) (s : List ℕ) : Type 0 where
+  pub good : sound s ≡ true
+  pub meant : limitOf (length s) ≡ limit
+  pub says : tableIn s ≡ tableAfter (bookDay limit) ps
 
-  sound-reached : (ps : List (List ℕ)) → sound (bytesAfter before ps) ≡ true
-  sound-reached [] = empty-sound before meant
-  sound-reached (p ∷ ps) = booked-sound (bytesAfter before ps) p (sound-reached ps)
+pub reached-empty : (before : List ℕ) → 0 < limitOf (length before) → Reached (limitOf (length before)) [] (bytesAfter before [])
+reached-empty before meant =
+    record { good = empty-sound before meant; meant = ap limitOf (day-length before []); says = empty-holds before meant .says }
 
-  same-limit : (ps : List (List ℕ)) → limitOf (length (bytesAfter before ps)) ≡ limit
-  same-limit ps = ap limitOf (day-length before ps)
+module _ {limit : ℕ} {ps : List (List ℕ)} {s : List ℕ} (r : Reached limit ps s) (p : List ℕ) where
+  pub reached-next : Reached limit (p ∷ ps) (bookBytes s p)
+  reached-next =
+      record {
+        good = booked-sound s p (r .good);
+        meant = ap limitOf (booked-length s p) ∙ r .meant;
+        says = booked-table s p (r .good) ∙ ap₂ {C = Table} (λ (n : ℕ) (t : Table). bookDay n t p .table) (r .meant) (r .says);
+      }
 
-  same-table : (ps : List (List ℕ)) → tableIn (bytesAfter before ps) ≡ tableAfter (bookDay limit) ps
-  same-table [] = empty-holds before meant .says
-  same-table (p ∷ ps) =
-      booked-table (bytesAfter before ps) p (sound-reached ps)
-      ∙ ap₂ {C = Table} (λ (n : ℕ) (t : Table). bookDay n t p .table) (same-limit ps) (same-table ps)
+  pub reached-answer : bookAnswer s p ≡ answerTo (bookDay limit) ps p
+  reached-answer = booked-answer s p (r .good) ∙ ap₂ {C = Answer (Unit {0})} (λ (n : ℕ) (t : Table). bookDay n t p .answer) (r .meant) (r .says)
 
-  same-answer : (ps : List (List ℕ)) (p : List ℕ) → bookAnswer (bytesAfter before ps) p ≡ answerTo (bookDay limit) ps p
-  same-answer ps p =
-      booked-answer (bytesAfter before ps) p (sound-reached ps)
-      ∙ ap₂ {C = Answer (Unit {0})} (λ (n : ℕ) (t : Table). bookDay n t p .answer) (same-limit ps) (same-table ps)
-
-  pub reached-bytes : (ps : List (List ℕ)) → (tableIn (bytesAfter before ps) ≡ tableAfter (bookDay limit) ps) × (sound (bytesAfter before ps) ≡ true)
-      × ((p : List ℕ) → bookAnswer (bytesAfter before ps) p ≡ answerTo (bookDay limit) ps p)
-  reached-bytes ps = (same-table ps, sound-reached ps, same-answer ps)
+pub reached-bytes : (before : List ℕ) → 0 < limitOf (length before) → (ps : List (List ℕ)) → Reached (limitOf (length before)) ps (bytesAfter before ps)
+reached-bytes before meant [] = reached-empty before meant
+reached-bytes before meant (p ∷ ps) = reached-next (reached-bytes before meant ps) p

@@ -1,7 +1,7 @@
 -- 01, Promises: no wrong booking of specs/Wrong.antt keeps the promise, by a witness.
 use Prim.Native.Nat.{ℕ}
 use native.Mathlib.Omega.{arith}
-use mathlib.Core.Path.{_≡_, refl, sym, ap, _∙_}
+use mathlib.Core.Path.{_≡_, refl, sym, ap, subst, _∙_}
 use mathlib.Core.Bool.{Bool, true, false, cond}
 use mathlib.Core.List.{List, [], _∷_}
 use lib.Dec.{eqb}
@@ -24,7 +24,7 @@ use Rattle.book.specs.Wrong.{Keeps, RefusesAll, ChangesNothing, NodsAtRe
 use Rattle.book.specs.declared.Booking.{Booking}
 use Rattle.book.specs.declared.Booking.the-variants.{Booked}
 use Rattle.book.proofs.Determined.{book-determined}
-use Rattle.book.proofs.Reached.{reached-bytes}
+use Rattle.book.proofs.Reached.{Reached, reached-answer, reached-bytes}
 
 -- the witnesses: A T1 100; E T1 30
 abbrev order : List ℕ
@@ -40,9 +40,8 @@ after = bytesAfter blank
 abbrev limit : ℕ
 limit = leastLimit
 
-reached : (ps : List (List ℕ)) → (tableIn (after ps) ≡ tableAfter (bookDay limit) ps) × (sound (after ps) ≡ true)
-    × ((p : List ℕ) → bookAnswer (after ps) p ≡ answerTo (bookDay limit) ps p)
-reached ps = rw blank-limit at (reached-bytes blank blank-meant ps)
+reached : (ps : List (List ℕ)) → Reached limit ps (after ps)
+reached ps = subst (λ (n : ℕ). Reached n ps (after ps)) blank-limit (reached-bytes blank blank-meant ps)
 
 -- ---- a refusal
 
@@ -70,7 +69,7 @@ module _ {book : List ℕ → List ℕ → Booking × List ℕ} (keeps : Keeps b
   booked : (ps : List (List ℕ)) (p : List ℕ) → answerTo (bookDay limit) ps p ≡ value tt
       → (book (after ps) p .0 ≡ Booked) × (book (after ps) p .1 ≡ after (p ∷ ps))
   booked ps p e =
-      let said = reached ps .2 p ∙ e in
+      let said = reached-answer (reached ps) p ∙ e in
       book-determined (after ps) p _ Booked _ (after (p ∷ ps)) (keeps (after ps) p) (record { said = sym said; out = refl })
 
   -- and the orders stay if the table does
@@ -80,7 +79,7 @@ module _ {book : List ℕ → List ℕ → Booking × List ℕ} (keeps : Keeps b
   nodded ps p e same =
       let (b, t) = booked ps p e in
       let stays = ap tableIn (sym t ∙ same b) in
-      ap (λ t. t .orders) (sym (reached (p ∷ ps) .0) ∙ stays ∙ reached ps .0)
+      ap (λ t. t .orders) (sym (reached (p ∷ ps) .says) ∙ stays ∙ reached ps .says)
 
   pub refuses-all : RefusesAll book → ⊥
   unfolding read lineOf
@@ -95,7 +94,7 @@ module _ {book : List ℕ → List ℕ → Booking × List ℕ} (keeps : Keeps b
   pub nods-at-rest : NodsAtRest book → ⊥
   unfolding read lineOf
   nods-at-rest same =
-      let one = ap (λ t. length (t .orders)) (reached (order ∷ []) .0) in
+      let one = ap (λ t. length (t .orders)) (reached (order ∷ []) .says) in
       omega (arith, ap (λ os. openAt os 0) (nodded (order ∷ []) trade refl (same (after (order ∷ [])) trade (omega (arith, one)))))
 
   pub changes-refusing : ChangesRefusing book → ⊥

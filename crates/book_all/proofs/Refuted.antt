@@ -1,19 +1,17 @@
 -- No wrong way of specs/Wrong.antt keeps the promise.
 use Prim.Native.Nat.{ℕ, zero, suc, _+_, _<_}
 use native.Mathlib.Omega.{arith}
-use mathlib.Core.Path.{_≡_, refl, sym, ap, _∙_}
+use mathlib.Core.Path.{_≡_, refl, sym, ap, subst, _∙_}
 use mathlib.Core.Bool.{true}
 use mathlib.Core.List.{List, [], _∷_}
 use lib.ListN.{length, getD, take, replicate, length-replicate}
 use Rattle.refusal.specs.Answer.{codeOf}
 use Rattle.layout.specs.Line.{read}
 use Rattle.layout.proofs.Forms.{no-value}
-use Rattle.day.specs.Demand3.{answerTo}
-use Rattle.day.specs.Machine.{book as bookDay}
 use Rattle.table.specs.Tables.{leastLimit, sound}
 use Rattle.table.proofs.Making.{blank, blank-limit, blank-meant}
 use Rattle.book.specs.Bytes.{bookAnswer, bookBytes, bytesAfter}
-use Rattle.book.proofs.Reached.{reached-bytes}
+use Rattle.book.proofs.Reached.{Reached, reached-answer, reached-bytes}
 use Rattle.run.proofs.Stores.{sets-whole}
 use Rattle.piece.specs.Pieces.{pieces}
 use Rattle.book_all.specs.InTurn.{answersTo, firstPieces}
@@ -44,16 +42,16 @@ twice = 13 ∷ 10 ∷ 13 ∷ 10 ∷ []
 abbrev end : List ℕ
 end = 13 ∷ 10 ∷ []
 
-reached : (ps : List (List ℕ)) → (sound (bytesAfter blank ps) ≡ true) × ((p : List ℕ) → bookAnswer (bytesAfter blank ps) p ≡ answerTo (bookDay leastLimit) ps p)
-reached ps = let r = reached-bytes blank blank-meant ps in (r .1, rw blank-limit at (r .2))
+reached : (ps : List (List ℕ)) → Reached leastLimit ps (bytesAfter blank ps)
+reached ps = subst (λ (n : ℕ). Reached n ps (bytesAfter blank ps)) blank-limit (reached-bytes blank blank-meant ps)
 
 first-end : codeOf (bookAnswer empty end) ≡ 0
 unfolding read
-first-end = ap codeOf (reached [] .1 end)
+first-end = ap codeOf (reached-answer (reached []) end)
 
 second-end : codeOf (bookAnswer (bookBytes empty end) end) ≡ 6
 unfolding read
-second-end = ap codeOf (reached (end ∷ []) .1 end)
+second-end = ap codeOf (reached-answer (reached (end ∷ [])) end)
 
 -- ---- what keeps the promise is none of these
 
@@ -76,7 +74,7 @@ module _ {bookAll : List ℕ → List ℕ → List ℕ → BookedAll × List ℕ
 
   pub judges-by-first : JudgesByFirst bookAll → ⊥
   judges-by-first same =
-      let good = reached [] .0 in
+      let good = reached [] .good in
       let right = given-all empty twice (9 ∷ 9 ∷ []) good refl in
       let wrong = same empty twice (9 ∷ 9 ∷ []) good in
       let second : codeOf (bookAnswer (bookBytes empty end) end) ≡ codeOf (bookAnswer empty end) = ap (λ (xs : List ℕ). getD xs 1 0) (sym right ∙ wrong) in

@@ -18,16 +18,12 @@ use Rattle.day.specs.Quotes.{hasRow}
 use Rattle.day.specs.Tables.{Table, empty}
 use Rattle.day.specs.Walk.{sheetOf}
 use Rattle.day.proofs.Demand3.{demand3}
-use Rattle.table.specs.Promises.{Makes}
 use Rattle.table.specs.Tables.{limitOf, tableIn, sound, madeFrom}
-use Rattle.table.specs.declared.Made.{Made}
 use Rattle.table.proofs.Limits.{limit-is, limit-none, least-length}
 use Rattle.table.proofs.Making.{taken}
-use Rattle.book.specs.Bytes.{bookBytes, bookAnswer, bytesAfter}
 use Rattle.book.specs.Promises.{Books, bookingOf}
 use Rattle.book.specs.declared.Booking.{Booking}
-use Rattle.book.proofs.Lengths.{day-length}
-use Rattle.book.proofs.Reached.{reached-bytes}
+use Rattle.book.proofs.Reached.{Reached, reached-empty, reached-next, reached-answer}
 use Rattle.sheet.specs.Promises.{Sheets, sheetWrittenOf, sheetAnswer, sheetFrom, textOf}
 use Rattle.sheet.specs.Texts.{sheetText, longestSheet}
 use Rattle.sheet.specs.declared.SheetWritten.{SheetWritten}
@@ -61,33 +57,21 @@ module _ (before : List ℕ) (meant : 0 < limitOf (length before)) where
   abbrev day : List Call → Table
   day calls = tableAfter (book limit) (piecesIn calls)
 
-  made : {x : Made} {table : List ℕ} → Makes before x table → table ≡ bytesAfter before []
-  made m = m .out ∙ ap (λ (a : Answer (Unit {0})). madeFrom a before) (taken before meant)
-
   -- ---- the bytes, the answers and the accepted lines of a day
 
-  same-bytes : {calls : List Call} {table : List ℕ} → Day before calls table → table ≡ bytesAfter before (piecesIn calls)
-  same-bytes (begun m) = made m
-  same-bytes (booked c d b) = b .out ∙ ap (λ (s : List ℕ). bookBytes s (c .piece)) (same-bytes d)
+  reached : {calls : List Call} {table : List ℕ} → Day before calls table → Reached limit (piecesIn calls) table
+  reached (begun m) =
+      subst (Reached limit []) (sym (m .out ∙ ap (λ (a : Answer (Unit {0})). madeFrom a before) (taken before meant))) (reached-empty before meant)
+  reached (booked {calls = calls} c d b) = subst (Reached limit (piecesIn (c ∷ calls))) (sym (b .out)) (reached-next (reached d) (c .piece))
 
   same-answer : {calls : List Call} {table : List ℕ} → Day before calls table → (p : List ℕ) (x : Booking) (after : List ℕ) → Books table p x after
       → bookingOf x ≡ answerTo (book limit) (piecesIn calls) p
-  same-answer {calls} d p x after b =
-      b .said ∙ ap (λ (s : List ℕ). bookAnswer s p) (same-bytes d) ∙ reached-bytes before meant (piecesIn calls) .2 p
+  same-answer d p x after b = b .said ∙ reached-answer (reached d) p
 
   same-history : {calls : List Call} {table : List ℕ} → Day before calls table → acceptedIn calls ≡ historyAfter (book limit) (piecesIn calls)
   same-history (begun m) = refl
   same-history (booked {after = after} c d b) =
       ap₂ (λ (a : Answer (Unit {0})) (h : History). joined a (read (c .piece)) h) (same-answer d (c .piece) (c .answer) after b) (same-history d)
-
-  same-table : {calls : List Call} {table : List ℕ} → Day before calls table → tableIn table ≡ day calls
-  same-table {calls} d = ap tableIn (same-bytes d) ∙ reached-bytes before meant (piecesIn calls) .0
-
-  still-sound : {calls : List Call} {table : List ℕ} → Day before calls table → sound table ≡ true
-  still-sound {calls} d = ap sound (same-bytes d) ∙ reached-bytes before meant (piecesIn calls) .1
-
-  same-limit : {calls : List Call} {table : List ℕ} → Day before calls table → limitOf (length table) ≡ limit
-  same-limit {calls} d = ap limitOf (ap length (same-bytes d) ∙ day-length before (piecesIn calls))
 
   -- ---- what the program prints
 
@@ -111,7 +95,8 @@ module _ (before : List ℕ) (meant : 0 < limitOf (length before)) where
   shows {calls} {table} d =
       let ps = piecesIn calls in
       let h = same-history d in
-      let t = same-table d in
+      let r = reached d in
+      let t = r .says in
       record {
         sheet = sheetOf (tableIn table);
         so = subst₂ (λ (a : History) (u : Table). IsSheet a (sheetOf u)) (sym h) (sym t) (demand3 limit .sheet-so ps);
@@ -121,8 +106,8 @@ module _ (before : List ℕ) (meant : 0 < limitOf (length before)) where
         quote-once = subst₂ (λ (a : History) (u : Table). (q : Quote) → hasRow q a ≡ true → shownQuote q (sheetOf u .quotes) ≡ 1) (sym h) (sym t) (demand3 limit .quote-once ps);
         no-other-quote = subst₂ (λ (a : History) (u : Table). (q : Quote) → hasRow q a ≡ false → shownQuote q (sheetOf u .quotes) ≡ 0) (sym h) (sym t) (demand3 limit .no-other-quote ps);
         adds-up = subst (λ (u : Table). Each AddsUp (sheetOf u .rows)) (sym t) (demand3 limit .adds-up ps);
-        written = λ out x after p room. sheet-written table (still-sound d) out room p;
-        room = subst (λ (k : ℕ). length (textOf table) ≤ longestSheet k) (same-limit d) (sheet-bound table (still-sound d));
+        written = λ out x after p room. sheet-written table (r .good) out room p;
+        room = subst (λ (k : ℕ). length (textOf table) ≤ longestSheet k) (r .meant) (sheet-bound table (r .good));
       }
 
 delivered : (before : List ℕ) → 0 < limitOf (length before) → Delivered before
@@ -136,7 +121,7 @@ delivered before meant =
       prints = λ {calls} d text e.
           ap (printedFrom (limitOf (length before)) 1 empty) (sym (append-nil (inOrder calls) ∙ e))
           ∙ printed-so before meant d []
-          ∙ ap (λ (t : Table). refusalLines calls ++ sheetText t) (sym (same-table before meant d));
+          ∙ ap (λ (t : Table). refusalLines calls ++ sheetText t) (sym (reached before meant d .says));
     }
 
 pub delivery : Delivery
