@@ -20,7 +20,8 @@ use crate::tests::check;
 
 const USAGE: &str = "\
 usage: second sheet < CAPTURE | second stream SEED COUNT | second day SEED COUNT | second alone SEED COUNT ORDERS |
-       second quotes SEED COUNT ROWS | second trial < CASES | second cases SEED COUNT | second random SEED COUNT | second vectors | second check";
+       second quotes SEED COUNT ROWS | second trial < CASES | second cases SEED COUNT | second random SEED COUNT |
+       second saved SEED COUNT | second vectors | second check";
 const BUFFER: usize = 1 << 16;
 
 fn main() -> ExitCode {
@@ -79,6 +80,10 @@ fn command(words: &[&str], output: &mut impl Write) -> io::Result<ExitCode> {
         ["random", seed, count] => {
             let (Ok(seed), Ok(count)) = (seed.parse(), count.parse()) else { return Ok(usage()) };
             set::write_random(seed, count, output)?;
+        }
+        ["saved", seed, count] => {
+            let (Ok(seed), Ok(count)) = (seed.parse(), count.parse()) else { return Ok(usage()) };
+            set::write_saved(seed, count, output)?;
         }
         ["vectors"] => vectors::write(output)?,
         ["check"] => {

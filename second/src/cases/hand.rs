@@ -4,6 +4,7 @@ use std::io::Write;
 
 use crate::cases::case::{order_payload, patch_payload, put, room_payload, Written};
 use crate::cases::shorthand::{capture, key, piece};
+use crate::rules::saved;
 use crate::rules::table::{self, SLOT};
 
 /// A sheet's buffer with room for a few orders.
@@ -89,6 +90,27 @@ impl Hand<'_> {
 
     pub fn sheet(&mut self, room: u32) -> Written {
         self.put(b'h', &room.to_le_bytes())
+    }
+
+    pub fn save(&mut self, room: u32) -> Written {
+        self.put(b'v', &room.to_le_bytes())
+    }
+
+    /// Loads a saved day into the table.
+    pub fn load(&mut self, bytes: &[u8]) -> Written {
+        let _ = saved::load(bytes, &mut self.table);
+        self.put(b'g', bytes)
+    }
+
+    /// Loads bytes that may be no saved day. What could be loaded is saved again, and the table put back.
+    pub fn try_load(&mut self, bytes: &[u8]) -> Written {
+        let before = self.table.clone();
+        self.load(bytes)?;
+        if self.table != before {
+            self.save(bytes.len() as u32)?;
+            self.restore(&before)?;
+        }
+        Ok(())
     }
 
     /// One of the entries that refuse a damaged table, by a number that may be any.

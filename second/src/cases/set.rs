@@ -8,6 +8,7 @@ use crate::cases::hand::Hand;
 use crate::cases::lines;
 use crate::cases::random::Random;
 use crate::cases::records::{self, Changes};
+use crate::cases::saved;
 use crate::cases::tables;
 use crate::cases::texts;
 use crate::rules::fields::{FIELDS, LETTERS};
@@ -23,6 +24,13 @@ pub fn write(seed: u64, count: u64, out: &mut impl Write) -> Written {
 /// Writes the random cases alone.
 pub fn write_random(seed: u64, count: u64, out: &mut impl Write) -> Written {
     by_chance(count, &mut Random::new(seed), out)
+}
+
+/// Writes the cases of saved days alone: the proved trial has no such kinds yet.
+pub fn write_saved(seed: u64, count: u64, out: &mut impl Write) -> Written {
+    let random = &mut Random::new(seed);
+    saved::bounds(random, &mut Hand::new(out))?;
+    saved::by_chance(count, random, &mut Hand::new(out))
 }
 
 /// The names between the parts help to find a difference.

@@ -5,6 +5,7 @@ use crate::cases::random::Random;
 use crate::cases::shorthand::{capture, other, padded};
 use crate::rules::day::{Day, Figures, Order, MOST};
 use crate::rules::fields::{places, LF, TOKEN};
+use crate::rules::line::MOST_PRICE;
 use crate::rules::quotes::{Quote, Row, Rows, MOST_ROWS};
 use crate::rules::table::{self, TABLE};
 
@@ -26,6 +27,11 @@ const RICH_QUOTES: [(&str, &[(usize, &str)]); 6] = [
     ("E QA2 50", &[]),
 ];
 pub const RICH_ROWS: usize = 5;
+/// An order of which all is passed on, its younger, of which all is open, and a quote row.
+const TINY: &str = "A T1 100; E T1 30; C T1 10; U T2 for T1, 60; E QA1 5";
+/// The same orders, one of which all is cancelled, and one of which all is open; rows of two ids.
+const SMALL: &str =
+    "A T1 100; E T1 30; C T1 10; U T2 for T1, 60; A T3 50; X T3 50; A T4 7; E QA1 30; C QA1 10; E QA2 5";
 /// How many quote rows a random table has.
 const ROW_COUNTS: [usize; 7] = [0, 0, 1, 5, 40, MOST_ROWS - 1, MOST_ROWS];
 
@@ -50,9 +56,45 @@ pub fn day_of(text: &[u8]) -> Day {
 }
 
 pub fn rich_table(random: &mut Random) -> Vec<u8> {
+    stored(&rich_day(), random)
+}
+
+pub fn rich_day() -> Day {
     let unlike = other("A T2 7", &[(10, "AB D02"), (14, "S"), (16, "X     "), (20, "E"), (21, "000001")]);
     let quotes: Vec<_> = RICH_QUOTES.iter().flat_map(|(words, changes)| other(words, changes)).collect();
-    stored(&day_of(&[capture(RICH[0]), unlike, quotes, capture(RICH[1])].concat()), random)
+    day_of(&[capture(RICH[0]), unlike, quotes, capture(RICH[1])].concat())
+}
+
+pub fn tiny_day() -> Day {
+    day_of(&capture(TINY))
+}
+
+/// Its third row is of the first one's id, and of the other side.
+pub fn small_day() -> Day {
+    day_of(&[capture(SMALL), other("E QA1 7", &[(14, "S")])].concat())
+}
+
+/// A day with the longest numbers in 512 orders and 128 quote rows. None has an elder: one in two groups costs the elder's
+/// open its three.
+pub fn longest_day() -> Day {
+    let day = tiny_day();
+    let quarter = 250_000;
+    let figures = Figures {
+        size: 4 * quarter - 1,
+        executed: quarter,
+        broken: quarter,
+        cancelled: quarter,
+        passed_on: quarter,
+        open: quarter - 1,
+    };
+    let order = Order { price: MOST_PRICE, figures, ..day.orders()[0].clone() };
+    let row = |number: usize| {
+        let mut quote = day.rows()[0].quote;
+        quote.key[6..22].copy_from_slice(format!("{number:016X}").as_bytes());
+        Row { quote, executed: u32::MAX, broken: u32::MAX }
+    };
+    let rows = Rows::of((0..MOST_ROWS).map(row).collect()).expect("no two are alike");
+    Day::of(vec![order; MOST], rows, false)
 }
 
 /// A table of 512 orders and 128 quote rows.

@@ -15,7 +15,7 @@ use crate::rules::fields::{CR_LF, FIELDS, LF, LINE, TOKEN};
 use crate::rules::quotes::MOST_ROWS;
 use crate::rules::sheet;
 use crate::rules::table::{self, row, slot, HEADER, ROW, ROW_BROKEN, ROW_EXECUTED, SLOT, TABLE};
-use crate::rules::trial::{LONGEST, LONGEST_TABLE, MOST_ANSWERS, WIDEST_SHEET};
+use crate::rules::trial::{LONGEST, LONGEST_TABLE, MOST_ANSWERS, WIDEST_OUTPUT};
 
 /// How many tables the random traffic is booked on, and how many orders they begin with.
 const TABLES: usize = 16;
@@ -202,7 +202,7 @@ fn bookings_when_full(random: &mut Random, hand: &mut Hand) -> Written {
         hand.show(place, 80)?;
     }
     hand.look_up(&key("T512"))?;
-    hand.sheet(WIDEST_SHEET as u32)
+    hand.sheet(WIDEST_OUTPUT as u32)
 }
 
 /// The earliest order with a key is found and booked, whatever the later ones are.
@@ -303,7 +303,7 @@ fn quotes_when_full(random: &mut Random, hand: &mut Hand) -> Written {
             hand.show_row(place, 49)?;
         }
         hand.check()?;
-        hand.sheet(WIDEST_SHEET as u32)?;
+        hand.sheet(WIDEST_OUTPUT as u32)?;
     }
     Ok(())
 }
@@ -486,7 +486,7 @@ fn traffic(day: Day, count: usize, random: &mut Random, hand: &mut Hand) -> Writ
             question(stream.day(), random, hand)?;
         }
     }
-    hand.sheet(WIDEST_SHEET as u32)
+    hand.sheet(WIDEST_OUTPUT as u32)
 }
 
 /// Books a text in calls with room for any number of answers, each behind what the one before used.
@@ -517,7 +517,7 @@ fn question(day: &Day, random: &mut Random, hand: &mut Hand) -> Written {
         28 => hand.check(),
         29 => {
             let length = sheet::text(day).len() as u32;
-            let rooms = [0, length - 1, length, length + 1, WIDEST_SHEET as u32];
+            let rooms = [0, length - 1, length, length + 1, WIDEST_OUTPUT as u32];
             hand.sheet(*random.pick(&rooms))
         }
         _ => {

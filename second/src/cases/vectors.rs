@@ -1,5 +1,5 @@
 //! The vectors of the papers, and a few for records as bytes, tables and texts, each with its answer written by hand.
-//! Those about quote rows are in `quotes`.
+//! Those about quote rows are in `quotes`, those about saved days in `saved_vectors`.
 
 use std::io::Write;
 

@@ -1,6 +1,6 @@
 //! What tells orders and quote rows apart: the key, the side and the series of a line (01, Orders and their figures).
 
-use crate::rules::fields::{ROOT, SIDE, SOURCE, STRIKE};
+use crate::rules::fields::{places, BODY, ROOT, SIDE, SOURCE, STRIKE, TOKEN};
 use crate::rules::line::Line;
 
 pub const SOURCE_BYTES: usize = 6;
@@ -28,4 +28,13 @@ pub fn series_of(line: Line) -> Series {
     let mut series = [0; 18];
     series.copy_from_slice(line.fields(ROOT, STRIKE));
     series
+}
+
+/// These three where a line has them, and nothing else.
+pub fn on_line(key: &Key, side: u8, series: &Series) -> [u8; BODY] {
+    let mut line = [b' '; BODY];
+    line[places(SOURCE, TOKEN)].copy_from_slice(key);
+    line[places(SIDE, SIDE)].fill(side);
+    line[places(ROOT, STRIKE)].copy_from_slice(series);
+    line
 }

@@ -10,6 +10,8 @@ use crate::rules::strike;
 const WHOLE: usize = 6;
 /// Ten-thousandths in a dollar.
 const DOLLAR: u64 = 10_000;
+/// The largest price: six digits before the point, and four behind it.
+pub const MOST_PRICE: u64 = 9_999_999_999;
 
 impl Field {
     /// What stands on the left of a number with fewer digits than places.
@@ -55,8 +57,12 @@ impl Field {
     /// Lays the record's field out on a line and holds it against its rule, the fields that it goes
     /// by being laid out before. False if it breaks its rule.
     pub fn lay_lawful(&self, record: &Record, line: &mut [u8]) -> bool {
-        let place = &mut line[self.places()];
-        self.lay(record, place) && printable(place) && self.lawful(line)
+        self.lay(record, &mut line[self.places()]) && self.keeps(line)
+    }
+
+    /// Whether the field keeps its rule on a line, all earlier ones that it goes by keeping theirs.
+    pub fn keeps(&self, line: &[u8]) -> bool {
+        printable(&line[self.places()]) && self.lawful(line)
     }
 
     /// Fills a place as wide as the field with the record's value, a price in ten-thousandths.

@@ -9,7 +9,7 @@ use crate::rules::refusal::Refusal;
 /// The most quote rows that a table holds.
 pub const MOST_ROWS: usize = 128;
 /// The characters of an id. The rest of its Token is padding.
-const ID: usize = 16;
+pub const ID: usize = 16;
 
 /// Whether a Token is an SQF id: sixteen characters 0 to 9 and A to F, and spaces behind them.
 pub fn is_id(token: &[u8]) -> bool {

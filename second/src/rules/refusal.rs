@@ -1,9 +1,9 @@
-//! The numbered refusals (01, Refusals by number, and 02, Ticket 1).
+//! The numbered refusals (01, Refusals by number, and 02, Tickets 1 and 2).
 
 use std::fmt;
 
 /// Why nothing was done. A `Field` carries the number of the first field that breaks its rule; `FullRows` says that no
-/// quote row is left, or that one can't hold more.
+/// quote row is left, or that one can't hold more; `NoSavedDay` also that the bytes describe a damaged table.
 #[derive(Clone, Copy, Debug, PartialEq, Eq)]
 pub enum Refusal {
     Piece,
@@ -19,6 +19,7 @@ pub enum Refusal {
     TooLittleExecuted,
     FullTable,
     FullRows,
+    NoSavedDay,
 }
 
 impl Refusal {
@@ -37,6 +38,7 @@ impl Refusal {
             Refusal::TooLittleExecuted => 11,
             Refusal::FullTable => 12,
             Refusal::FullRows => 13,
+            Refusal::NoSavedDay => 14,
         }
     }
 

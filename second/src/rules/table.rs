@@ -7,7 +7,7 @@ use crate::rules::day::{Day, Figures, Order, MOST};
 use crate::rules::fields::{
     places, BODY, DATE, DENOMINATOR, FIELDS, LF, MONTH, PRICE, ROOT, SIDE, SOURCE, STRIKE, TOKEN, YEAR,
 };
-use crate::rules::key::{Key, Series};
+use crate::rules::key::{on_line, Key, Series};
 use crate::rules::quotes::{is_id, Quote, Row, Rows, MOST_ROWS};
 use crate::rules::record::Record;
 use crate::rules::refusal::Refusal;
@@ -73,13 +73,19 @@ pub fn row(place: usize) -> Range<usize> {
 
 /// Makes the empty table. Only the header is written.
 pub fn make_empty(table: &mut [u8]) -> Result<(), Refusal> {
-    if table.len() < TABLE {
+    fits(table)?;
+    store_header(&Day::default(), table);
+    Ok(())
+}
+
+/// Whether a table can be made in a buffer: a short one has no room, and a longer one is no table.
+pub fn fits(buffer: &[u8]) -> Result<(), Refusal> {
+    if buffer.len() < TABLE {
         return Err(Refusal::Buffer);
     }
-    if table.len() > TABLE {
+    if buffer.len() > TABLE {
         return Err(Refusal::Damaged);
     }
-    store_header(&Day::default(), table);
     Ok(())
 }
 
@@ -194,11 +200,7 @@ impl Kept {
 
     /// What the line says of it.
     fn record(&self) -> Record {
-        let mut line = [b' '; BODY];
-        line[places(SOURCE, TOKEN)].copy_from_slice(&self.key);
-        line[places(SIDE, SIDE)].fill(self.side);
-        line[places(ROOT, STRIKE)].copy_from_slice(&self.series);
-        let mut record = Record::of_line(&line);
+        let mut record = Record::of_line(&on_line(&self.key, self.side, &self.series));
         record.set_number(PRICE, self.price);
         record
     }
@@ -235,7 +237,7 @@ fn number_at(bytes: &[u8], at: usize) -> u32 {
 }
 
 /// Whether each elder is an earlier order with nothing open, and the elder of one order alone.
-fn descent_holds(orders: &[Order]) -> bool {
+pub fn descent_holds(orders: &[Order]) -> bool {
     let mut replaced = [false; MOST];
     orders.iter().enumerate().all(|(place, order)| {
         order.elder.is_none_or(|elder| {

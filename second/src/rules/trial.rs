@@ -8,6 +8,7 @@ use crate::rules::fields::{FIELDS, LF};
 use crate::rules::line::{self, Reading};
 use crate::rules::record::Record;
 use crate::rules::refusal::Refusal;
+use crate::rules::saved;
 use crate::rules::sheet;
 use crate::rules::strike;
 use crate::rules::sum::sum;
@@ -15,9 +16,9 @@ use crate::rules::table;
 
 /// The longest payload.
 pub const LONGEST: usize = 65_536;
-/// The longest buffer that an `i`, `w`, `o` or `q` case may ask for, and the longest for a sheet.
+/// The longest buffer that an `i`, `w`, `o` or `q` case may ask for, and the longest for a sheet or a saved day.
 const WIDEST: usize = 300;
-pub const WIDEST_SHEET: usize = 60_000;
+pub const WIDEST_OUTPUT: usize = 60_000;
 /// The most answers that an `a` case may ask for.
 pub const MOST_ANSWERS: usize = 1_000;
 /// The longest table in hand.
@@ -93,6 +94,8 @@ impl Trial {
             b'b' => self.book(payload, out),
             b'a' => self.book_all(payload, out),
             b'h' => self.sheet(payload, out),
+            b'v' => self.save(payload, out),
+            b'g' => self.load(payload, out),
             b'x' => next_piece(payload, out),
             b'y' => pieces(payload, out),
             b'z' => given(payload, out),
@@ -235,6 +238,8 @@ fn clock_time(payload: &[u8], out: &mut Vec<u8>) -> Option<()> {
 
 /// An entry that copies what stands at a place of a table to the front of a buffer.
 type Copying = fn(&[u8], u64, &mut [u8]) -> Result<(), Refusal>;
+/// An entry that writes what a table says to the front of a buffer, and tells how much.
+type Writing = fn(&[u8], &mut [u8]) -> Result<usize, Refusal>;
 
 impl Trial {
     fn sum(&self) -> u64 {
@@ -324,18 +329,41 @@ impl Trial {
     }
 
     fn sheet(&self, payload: &[u8], out: &mut Vec<u8>) -> Option<()> {
+        let (words, written) = self.output("sheet", table::write_sheet, payload)?;
+        say_buffer(out, &words, &written);
+        Some(())
+    }
+
+    fn save(&self, payload: &[u8], out: &mut Vec<u8>) -> Option<()> {
+        let (words, written) = self.output("save", saved::save, payload)?;
+        say_buffer(out, &words, in_hex(&written).as_bytes());
+        Some(())
+    }
+
+    /// Has an entry write to a buffer. The words for it, and the bytes that were written.
+    fn output(&self, word: &str, entry: Writing, payload: &[u8]) -> Option<(String, Vec<u8>)> {
         let room = u32::from_le_bytes(payload.try_into().ok()?) as usize;
-        if room > WIDEST_SHEET {
+        if room > WIDEST_OUTPUT {
             return None;
         }
         let mut buffer = vec![UNTOUCHED; room];
-        let result = table::write_sheet(&self.table, &mut buffer);
+        let result = entry(&self.table, &mut buffer);
         let sum = sum(&buffer);
-        let written = &buffer[..result.unwrap_or(0)];
+        buffer.truncate(result.unwrap_or(0));
         let outcome = result.map_or_else(|refusal| refused(refusal, 1), |length| format!("done {length}"));
-        say_buffer(out, &format!("sheet {room} {outcome} sum {sum}"), written);
+        Some((format!("{word} {room} {outcome} sum {sum}"), buffer))
+    }
+
+    fn load(&mut self, bytes: &[u8], out: &mut Vec<u8>) -> Option<()> {
+        let outcome = outcome(saved::load(bytes, &mut self.table));
+        say(out, &format!("load {outcome} sum {}\n", self.sum()));
         Some(())
     }
+}
+
+/// Two digits for each byte.
+pub fn in_hex(bytes: &[u8]) -> String {
+    bytes.iter().map(|byte| format!("{byte:02x}")).collect()
 }
 
 fn nothing(payload: &[u8]) -> Option<()> {

@@ -5,5 +5,6 @@ mod days;
 mod law;
 mod lines;
 mod runs;
+mod saved;
 mod tables;
 mod vectors;

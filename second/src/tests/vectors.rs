@@ -1,14 +1,16 @@
 //! The vectors as tests: whether the trial says what they want, and more of them about lines, records and cases.
 
 use crate::cases::case::room_payload;
+use crate::cases::saved_vectors::{saved_days, SAVED};
 use crate::cases::shorthand::{executed, untraded, EXECUTED, NO_TOKEN};
 use crate::cases::vectors::{self, reads, refused_field, says, unwritten, Says, Vector};
 use crate::rules::record::Record;
 use crate::rules::trial::Trial;
 
-/// The vectors that are cases too, and those that are tests alone.
+/// The vectors that are cases too, and those that are tests alone: those about saved days until the proved trial has such
+/// cases.
 pub fn all() -> Vec<Vector> {
-    vectors::all().into_iter().chain(more()).collect()
+    vectors::all().into_iter().chain(saved_days()).chain(more()).collect()
 }
 
 /// Whether the trial says what the vector wants. It keeps the table in hand for the next vector.
@@ -100,9 +102,11 @@ fn more() -> Vec<Vector> {
         says("A table of 40,968 bytes, without quote rows", b't', vec![0; 40_968], format!("table 40968 sum {}", 40_968 * 65_536_u64 + 1)),
         says("is damaged", b'd', vec![], "damaged"),
         says("and too short to be made empty", b'e', vec![], format!("empty refused 4 sum {}", 40_968 * 65_536_u64 + 1)),
+        says("or to be loaded into", b'g', SAVED.to_vec(), format!("load refused 4 sum {}", 40_968 * 65_536_u64 + 1)),
         says("A table of 47,241 bytes", b't', vec![0; 47_241], format!("table 47241 sum {}", 47_241 * 65_536_u64 + 1)),
         says("is damaged too", b'd', vec![], "damaged"),
         says("and too long to be made empty", b'e', vec![], format!("empty refused 5 sum {}", 47_241 * 65_536_u64 + 1)),
+        says("or to be loaded into, whatever the bytes are", b'g', vec![], format!("load refused 5 sum {}", 47_241 * 65_536_u64 + 1)),
         says("A table of 47,400 bytes", b't', vec![0; 47_400], format!("table 47400 sum {}", 47_400 * 65_536_u64 + 1)),
         says("A table of 47,401 bytes is a bad case", b't', vec![0; 47_401], "bad case"),
     ]
