@@ -8,3 +8,7 @@ pub mod Checking
 pub mod Storing
 -- What reading quote rows into scratch keeps, and what is said of all of them
 pub mod Rows
+-- What a front, orders and rows, one behind another, say of a whole day
+pub mod Whole
+-- What storing the orders and rows of a day makes of a lent buffer
+pub mod DayStored

@@ -37,7 +37,7 @@ module _ {A : Type 0} (put : A → List ℕ → List ℕ) where
 
 -- ---- orders, and rows, behind those that are there
 
-orders-held : (os : List Order) (s : List ℕ) (t : Table) → Holds s t → length (t .orders) + length os ≤ limitOf (length s) → AllFit os
+pub orders-held : (os : List Order) (s : List ℕ) (t : Table) → Holds s t → length (t .orders) + length os ≤ limitOf (length s) → AllFit os
     → Holds (ordersAppended os s) (withOrders (t .orders ++ os) t)
 orders-held [] s t h room fit = rw (append-nil (t .orders)) h
 orders-held (o ∷ os) s t h room fit =

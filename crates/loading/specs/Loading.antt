@@ -3,19 +3,23 @@ use Prim.Native.Nat.{ℕ, _+_}
 use mathlib.Core.Path.{_≡_}
 use mathlib.Core.Bool.{Bool, true, false, cond}
 use mathlib.Core.List.{List, [], _∷_}
-use lib.ListN.{length, drop, replicate}
+use lib.Dec.{eqb}
+use lib.ListN.{length, getD, drop, replicate}
 use lib.Seq.{sets}
+use Rattle.refusal.specs.Answer.{Answer, value, refused}
 use Rattle.order.specs.declared.Order.{Order}
 use Rattle.quote.specs.declared.QuoteRow.{QuoteRow}
 use Rattle.day.specs.Damage.{ordersUndamaged, quotesUndamaged}
 use Rattle.day.specs.Tables.{Table}
 use Rattle.groups.specs.Taken.{Taken, none, taken, listIn}
-use Rattle.groups.specs.Groups.{endAt}
+use Rattle.groups.specs.Groups.{endAt, numberIn}
 use Rattle.groups.specs.declared.End.{End}
 use Rattle.groups.specs.declared.End.the-variants.{At, Nowhere}
+use Rattle.saved.specs.Days.{frontLawful, dayIn}
 use Rattle.saved.specs.Entries.{savedRowIn}
 use Rattle.quote_slot.specs.QuoteSlots.{rowsIn}
 use Rattle.table.specs.Changes.{appended, rowAppended}
+use Rattle.loading.specs.declared.Front.{Front}
 
 -- ---- the place behind what is read there, where it is undamaged
 
@@ -60,3 +64,33 @@ pub record PutsAll {A : Type 0} (put : A → List ℕ → List ℕ) (at : ℕ) (
   pub said : r ≡ endAt at t
   pub room : length after ≡ length before
   pub stored : (xs : List A) (w : ℕ) → t ≡ taken xs w → after ≡ putAll put xs before
+
+-- ---- a whole day
+
+-- the bytes are a day
+abbrev pub isDay : Answer Table → Bool
+isDay (value t) = true
+isDay (refused n f) = false
+
+-- what four numbers say that end at a place
+abbrev pub frontOf : List ℕ → ℕ → Front
+frontOf vs w =
+    record { found = frontLawful 512 vs; over = eqb (getD vs 1 0) 1; orders = getD vs 2 0; rows = getD vs 3 0; next = w }
+
+-- the numbers of a lawful front, and the place behind them
+pub record FrontOf (limit : ℕ) (s : List ℕ) (r : Front) : Type 0 where
+  pub values : List ℕ
+  pub there : listIn numberIn 4 s ≡ taken values (r .next)
+  pub lawful : frontLawful limit values ≡ true
+  pub over : r .over ≡ eqb (getD values 1 0) 1
+  pub orders : r .orders ≡ getD values 2 0
+  pub rows : r .rows ≡ getD values 3 0
+
+-- the front of a day, or bytes that are none
+pub record ReadsFront (limit : ℕ) (s : List ℕ) (r : Front) : Type 0 where
+  pub some : r .found ≡ true → FrontOf limit s r
+  pub none : r .found ≡ false → isDay (dayIn limit s) ≡ false
+
+-- the table of a day in a lent buffer
+pub record StoresDay (limit : ℕ) (s before after : List ℕ) : Type 0 where
+  pub stored : (t : Table) → dayIn limit s ≡ value t → after ≡ tableBytes t before
