@@ -25,12 +25,12 @@ use Rattle.groups.specs.declared.End.the-variants.{At, Nowhere}
 use Rattle.groups.proofs.Lists.{length-list-in, list-inside}
 use Rattle.saved.specs.Days.{dayIn}
 use Rattle.saved.specs.Entries.{savedOrderIn, savedRowIn}
-use Rattle.saved.proofs.Days.{day-sound}
+use Rattle.saved.proofs.Days.{day-sound, same-value}
 use Rattle.saved.proofs.Savable.{order-inside}
 use Rattle.loading.specs.declared.Front.{Front}
-use Rattle.loading.specs.Loading.{FrontOf, PutsAll, ReadsFront, StoresDay, isDay, markedBy, ordersAppended, tableBytes}
+use Rattle.loading.specs.Loading.{LawfulFront, PutsAll, ReadsFront, StoresDay, isDay, markedBy, ordersAppended, tableBytes}
 use Rattle.loading.proofs.Tables.{orders-held}
-use Rattle.loading.proofs.Whole.{nowhere-at, same-at, same-value, DayOf, day-of, front-inside, orders-few}
+use Rattle.loading.proofs.Whole.{nowhere-at, same-at, DayOf, day-of, front-inside, orders-few}
 
 -- ---- the mark
 
@@ -60,7 +60,7 @@ no-rows-held {s} h e = sym (length-rows (baseIn s) (rowCountIn s) s) ∙ ap (λ 
 pub record Given (s : List ℕ) (r : Front) : Type 0 where
   pub table : Table
   pub said : dayIn 512 s ≡ value table
-  pub front : FrontOf 512 s r
+  pub front : LawfulFront 512 s r
   pub sound : undamaged 512 table ≡ true
 
 pub given : (s : List ℕ) (r : Front) → ReadsFront 512 s r → isDay (dayIn 512 s) ≡ true → Given s r

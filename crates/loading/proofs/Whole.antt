@@ -11,6 +11,7 @@ use lib.ListN.{length, getD, drop, length-drop}
 use lib.Seq.{drop-drop}
 use Rattle.run.proofs.Tests.{both, same-test}
 use Rattle.refusal.specs.Answer.{value, refused}
+use Rattle.layout.proofs.Forms.{no-value}
 use Rattle.order.specs.declared.Order.{Order}
 use Rattle.quote.specs.Quotes.{mostRows}
 use Rattle.quote.specs.declared.QuoteRow.{QuoteRow}
@@ -24,9 +25,10 @@ use Rattle.groups.proofs.Lists.{list-inside}
 use Rattle.groups.proofs.Numbers.{number-inside}
 use Rattle.saved.specs.Days.{dayOf, dayIn}
 use Rattle.saved.specs.Entries.{savedOrderIn, savedRowIn}
+use Rattle.saved.proofs.Days.{same-value}
 use Rattle.saved.proofs.Savable.{order-inside}
 use Rattle.loading.specs.declared.Front.{Front}
-use Rattle.loading.specs.Loading.{endOfOrders, endOfRows, isDay, frontOf, FrontOf, ReadsFront}
+use Rattle.loading.specs.Loading.{endOfOrders, endOfRows, isDay, frontSaid, LawfulFront, ReadsFront}
 
 pub nowhere-at : {a : ℕ} → Nowhere ≡ At a → ⊥
 nowhere-at e = let z : _≡_ {A = ℕ} 0 1 = cc in omega arith
@@ -47,12 +49,12 @@ no-front s before after end r f four e g =
     nothing (taken vs w) h = absurd (nowhere-at h)
 
 -- numbers, those of a day or not
-pub front-read : (s before after : List ℕ) (end : End) (next : ℕ) (r : Front) → ReadsAll s 0 before end after → length before ≡ 4 → end ≡ At next → r ≡ frontOf after next
+pub front-read : (s before after : List ℕ) (end : End) (next : ℕ) (r : Front) → ReadsAll s 0 before end after → length before ≡ 4 → end ≡ At next → r ≡ frontSaid after next
     → ReadsFront 512 s r
 unfolding dayIn
 front-read s before after end next r f four e g = go (listIn numberIn (length before) s) refl (sym e ∙ f .said)
   where
-    judged : (vs : List ℕ) (w : ℕ) → listIn numberIn 4 s ≡ taken vs w → ReadsFront 512 s (frontOf vs w)
+    judged : (vs : List ℕ) (w : ℕ) → listIn numberIn 4 s ≡ taken vs w → ReadsFront 512 s (frontSaid vs w)
     judged vs w p =
         record {
           some = λ l. record { values = vs; there = p; lawful = l; over = refl; orders = refl; rows = refl };
@@ -67,7 +69,7 @@ front-read s before after end next r f four e g = go (listIn numberIn (length be
 
 -- ---- behind a lawful front
 
-module _ {s : List ℕ} {r : Front} (front : FrontOf 512 s r) where
+module _ {s : List ℕ} {r : Front} (front : LawfulFront 512 s r) where
   abbrev rest : List ℕ
   rest = drop (r .next) s
 
@@ -187,13 +189,7 @@ module _ {s : List ℕ} {r : Front} (front : FrontOf 512 s r) where
 
 -- ---- what a day says
 
-no-value : {t : Table} → refused 14 0 ≡ value t → ⊥
-no-value e = let z : _≡_ {A = ℕ} 0 1 = cc in omega arith
-
-pub same-value : {t u : Table} → value t ≡ value u → t ≡ u
-same-value e = cc
-
-module _ {s : List ℕ} {r : Front} (front : FrontOf 512 s r) where
+module _ {s : List ℕ} {r : Front} (front : LawfulFront 512 s r) where
   -- its orders and rows stand one behind another
   pub record DayOf (t : Table) : Type 0 where
     pub width : ℕ

@@ -73,12 +73,12 @@ isDay (value t) = true
 isDay (refused n f) = false
 
 -- what four numbers say that end at a place
-abbrev pub frontOf : List ℕ → ℕ → Front
-frontOf vs w =
+abbrev pub frontSaid : List ℕ → ℕ → Front
+frontSaid vs w =
     record { found = frontLawful 512 vs; over = eqb (getD vs 1 0) 1; orders = getD vs 2 0; rows = getD vs 3 0; next = w }
 
 -- the numbers of a lawful front, and the place behind them
-pub record FrontOf (limit : ℕ) (s : List ℕ) (r : Front) : Type 0 where
+pub record LawfulFront (limit : ℕ) (s : List ℕ) (r : Front) : Type 0 where
   pub values : List ℕ
   pub there : listIn numberIn 4 s ≡ taken values (r .next)
   pub lawful : frontLawful limit values ≡ true
@@ -88,7 +88,7 @@ pub record FrontOf (limit : ℕ) (s : List ℕ) (r : Front) : Type 0 where
 
 -- the front of a day, or bytes that are none
 pub record ReadsFront (limit : ℕ) (s : List ℕ) (r : Front) : Type 0 where
-  pub some : r .found ≡ true → FrontOf limit s r
+  pub some : r .found ≡ true → LawfulFront limit s r
   pub none : r .found ≡ false → isDay (dayIn limit s) ≡ false
 
 -- the table of a day in a lent buffer

@@ -9,7 +9,7 @@ ghost use Rattle.saved.specs.Days.{dayIn};
 ghost use Rattle.saved.specs.Entries.{savedOrderIn, savedRowIn};
 ghost use Rattle.table.specs.Changes.{appended, rowAppended};
 ghost use Rattle.table.specs.Tables.{countIn, limitOf, rowCountIn};
-ghost use Rattle.loading.specs.Loading.{PutsAll, ReadsFront, ReadsRows, StoresDay, endOfOrders, endOfRows, frontOf, isDay, markedBy};
+ghost use Rattle.loading.specs.Loading.{PutsAll, ReadsFront, ReadsRows, StoresDay, endOfOrders, endOfRows, frontSaid, isDay, markedBy};
 use groups::End;
 use table::elders;
 use table::elders::FLAGS;
@@ -144,7 +144,7 @@ pub fn store_rows(t: &mut [u8], s: &[u8], at: usize, n: usize) -> End
 // The front that four numbers make which end at a place.
 fn front_of(values: &[u64], next: usize) -> Front
     requires { ⌜ length (now values) ≡ 4 ⌝ }
-    ensures { λ r. ⌜ r ≡ frontOf (now (values .entry)) next ⌝ }
+    ensures { λ r. ⌜ r ≡ frontSaid (now (values .entry)) next ⌝ }
 {
     let form = values[0] == FORM;
     let mark = values[1] <= 1;

@@ -11,6 +11,7 @@ use lib.Seq.{drop-append-seam}
 use Rattle.run.proofs.All.{all-drop}
 use Rattle.run.proofs.Tests.{both}
 use Rattle.refusal.specs.Answer.{value, refused}
+use Rattle.layout.proofs.Forms.{no-value}
 use Rattle.order.specs.Stored.{soundOrder}
 use Rattle.order.specs.declared.Order.{Order}
 use Rattle.quote.specs.Quotes.{mostRows, soundRow}
@@ -112,9 +113,6 @@ module _ (limit : ℕ) (few : limit < 2 ^ 64) (t : Table) (u : undamaged limit t
       rw (append-assoc f a b, front-read (a ++ b), front-lawful, drop-append-seam f (a ++ b), table-read, eq-eqb (length (a ++ b)) (length (a ++ b)) refl, u)
 
 -- ---- what is read was saved
-
-pub no-value : {A : Type 0} {a : A} {n f : ℕ} → refused n f ≡ value a → ⊥
-no-value e = let z : _≡_ {A = ℕ} 0 1 = cc in omega arith
 
 pub same-value : {A : Type 0} {a b : A} → value a ≡ value b → a ≡ b
 same-value e = cc

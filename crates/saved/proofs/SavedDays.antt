@@ -7,6 +7,7 @@ use borrow.Author.Tests.{lt-ltb, ltb-true}
 use lib.Dec.{eqb}
 use lib.ListN.{length, drop}
 use Rattle.refusal.specs.Answer.{Answer, value, refused}
+use Rattle.layout.proofs.Forms.{no-value}
 use Rattle.day.specs.Damage.{undamaged}
 use Rattle.day.specs.Tables.{Table}
 use Rattle.groups.specs.Taken.{Taken, none, taken, listIn, AreBytes}
@@ -14,7 +15,7 @@ use Rattle.groups.specs.Groups.{numberIn}
 use Rattle.groups.proofs.Numbers.{number-exact, number-most}
 use Rattle.saved.specs.Days.{savedDay, frontLawful, tableFrom, dayOf, behindFront, dayIn}
 use Rattle.saved.specs.SavedDays.{NumberCode, SavedDays}
-use Rattle.saved.proofs.Days.{day-back, day-sound, day-forth, no-value, same-value}
+use Rattle.saved.proofs.Days.{day-back, day-sound, day-forth, same-value}
 
 pub number-code : NumberCode
 number-code =
