@@ -1,4 +1,6 @@
 // Booking a piece into a lent table: plan, then store.
+#![tactic(auto)]
+
 mod conditions;
 mod fills;
 mod planning;
@@ -8,14 +10,14 @@ use order::Figures;
 use refusal::Refusal;
 pub use store::{book, book_sound};
 
-#[derive(Drop)]
+#[derive(Clone, Copy)]
 pub enum Booking {
     Booked,
     Refused(Refusal),
 }
 
 // What a line does to a table. It holds no array: what the record says is taken from the record.
-#[derive(Drop)]
+#[derive(Clone, Copy)]
 pub(crate) enum Plan {
     No(Refusal),
     // One order more, of a line that has no elder.

@@ -1,4 +1,6 @@
 // A text in one call: its pieces are booked one after another, behind one damage check and by one index.
+#![tactic(auto)]
+
 ghost use Rattle.std.specs.Prelude.{◌≡◌, true};
 ghost use Rattle.refusal.specs.Answer.{code_of};
 ghost use Rattle.table.specs.Tables.{sound};
@@ -12,13 +14,13 @@ use refusal::Refusal;
 use table::damage;
 
 // How much of a text was used.
-#[derive(Drop)]
+#[derive(Clone, Copy)]
 pub struct Used {
     pub bytes: usize,
     pub pieces: usize,
 }
 
-#[derive(Drop)]
+#[derive(Clone, Copy)]
 pub enum BookedAll {
     Done(Used),
     Refused(Refusal),

@@ -1,4 +1,6 @@
 // Numbers and runs of bytes at an offset of a lent buffer. What they mean is not known here.
+#![tactic(auto)]
+
 ghost use Rattle.std.specs.Prelude.{◌+◌, ◌≤◌, ◌≡◌, length};
 ghost use Rattle.std.proofs.lemmas.List.Edits.{sets};
 ghost use Rattle.run.specs.Runs.{part};

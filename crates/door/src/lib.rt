@@ -1,5 +1,7 @@
 // The door for hosts: every public operation as a C function over numbers, byte slices and lent numbers. Each answers 0, or the refusal's number
 // plus 256 times its field; a refusal changes no lent number and no lent byte. include/skurzelt.h says it for people.
+#![tactic(auto)]
+
 ghost use Rattle.std.specs.Prelude.{◌≡◌, ◌≤◌, length};
 ghost use Rattle.layout.specs.Line.{unlawful};
 ghost use Rattle.image.specs.Images.{record_in, sooner};

@@ -1,5 +1,7 @@
 // The sheet program: reads standard input to its end, prints each refused piece as it comes, and at the end the sheet. What is printed is decided
 // in `feed`, and written out in `sheet_run`.
+#![tactic(auto)]
+
 ghost use Rattle.std.specs.Prelude.{◌≤◌, ◌<◌, ◌≡◌, true, [], length};
 ghost use Rattle.table.specs.Tables.{limit_of, sound};
 ghost use Rattle.lookup.specs.Beside.{Beside};

@@ -1,4 +1,6 @@
 // An order and a quote row at a place of a saved day (02, 2): read and written by value.
+#![tactic(auto)]
+
 mod read;
 mod write;
 
@@ -24,32 +26,32 @@ pub const ORDER: usize = 115;
 pub const ROW: usize = 61;
 
 // An enum holds no array, so what was read stands beside whether it was.
-#[derive(Drop)]
+#[derive(Clone, Copy)]
 pub(crate) struct SeriesRead {
     pub found: bool,
     pub series: Series,
 }
 
-#[derive(Drop)]
+#[derive(Clone, Copy)]
 pub(crate) struct Head {
     pub found: bool,
     pub quote: Quote,
 }
 
 // The place behind an entry, or nowhere.
-#[derive(Drop)]
+#[derive(Clone, Copy)]
 pub(crate) struct Entry {
     pub next: End,
     pub quote: Quote,
 }
 
-#[derive(Drop)]
+#[derive(Clone, Copy)]
 pub struct OrderRead {
     pub next: End,
     pub order: Order,
 }
 
-#[derive(Drop)]
+#[derive(Clone, Copy)]
 pub struct RowRead {
     pub next: End,
     pub row: QuoteRow,

@@ -1,4 +1,6 @@
 // The sheet program without its system calls: text to pieces to booked lines and refusal lines, and at the end the sheet.
+#![tactic(auto)]
+
 ghost use Rattle.std.specs.Prelude.{◌≤◌, ◌≡◌, true, length};
 ghost use Rattle.table.specs.Tables.{limit_of, sound};
 ghost use Rattle.lookup.specs.Beside.{Beside};
@@ -19,7 +21,7 @@ pub const HOLD: usize = 141;
 const LONGEST: usize = 46;
 
 // How much of the chunk was used and how much was written; how much is held, and the number of the piece to come.
-#[derive(Drop)]
+#[derive(Clone, Copy)]
 pub struct Fed {
     pub used: usize,
     pub wrote: usize,

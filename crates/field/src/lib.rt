@@ -1,10 +1,12 @@
 // One field of fixed width: its readers and its writers. Nothing here knows where a field stands in a line.
+#![tactic(auto)]
+
 pub mod digits;
 pub mod put;
 pub mod verbatim;
 
 // What a byte may be.
-#[derive(Drop)]
+#[derive(Clone, Copy)]
 pub enum Class {
     Printable,
     Space,
@@ -13,14 +15,14 @@ pub enum Class {
 }
 
 // The answer for a field that is kept as its bytes.
-#[derive(Drop)]
+#[derive(Clone, Copy)]
 pub enum Bytes {
     Lawful,
     Unlawful,
 }
 
 // The answer for a field that is read as a number.
-#[derive(Drop)]
+#[derive(Clone, Copy)]
 pub enum Number {
     Value(u64),
     Bad,

@@ -1,4 +1,6 @@
 // Numbers in groups of seven bits (02, 2): read at a place of lent bytes, and written there.
+#![tactic(auto)]
+
 ghost use Rattle.std.specs.Prelude.{◌+◌, ◌≤◌, ◌<◌, ◌≡◌, length, drop};
 ghost use Rattle.groups.specs.Taken.{joined};
 ghost use Rattle.groups.specs.Groups.{Puts, ReadsAll, above, groups_in, if_in64, number_at, number_bytes, number_in};
@@ -7,14 +9,14 @@ ghost use Rattle.groups.specs.Groups.{Puts, ReadsAll, above, groups_in, if_in64,
 const TENTH: u64 = 9_223_372_036_854_775_808;
 
 // A number and the place behind it, or no number.
-#[derive(Drop)]
+#[derive(Clone, Copy)]
 pub enum Number {
     Value(u64, usize),
     Bad,
 }
 
 // The place behind what was read, or nowhere.
-#[derive(Drop)]
+#[derive(Clone, Copy)]
 pub enum End {
     At(usize),
     Nowhere,

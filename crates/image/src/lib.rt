@@ -1,4 +1,6 @@
 // A record as the bytes that cross to a host and back (docs/LAYOUT.md, A record).
+#![tactic(auto)]
+
 ghost use Rattle.std.specs.Prelude.{◌+◌, ◌≤◌, ◌≡◌, length};
 ghost use Rattle.std.proofs.lemmas.List.Edits.{sets};
 ghost use Rattle.layout.specs.Line.{line, read};

@@ -1,5 +1,7 @@
 // The earliest record with a key, by an index beside the records: for each bucket the latest of its records, and for each record the one before it in its bucket.
 // A lookup walks its chain if that is short, and scans if not: keys that all fall into one bucket cost the scan, and a few links to find that out.
+#![tactic(auto)]
+
 mod building;
 mod chain;
 mod differing;

@@ -1,4 +1,6 @@
 // What a line says, as code holds it. The written rules of a line stand in specs/, their laws in proofs/.
+#![tactic(auto)]
+
 mod rules;
 
 pub use rules::{
@@ -9,14 +11,14 @@ pub use rules::{
 };
 
 // What only executions and breaks carry.
-#[derive(Drop)]
+#[derive(Clone, Copy)]
 pub struct Trade {
     pub liquidity: u8,
     pub match_id: u64,
     pub cross_id: u64,
 }
 
-#[derive(Drop)]
+#[derive(Clone, Copy)]
 pub enum Event {
     // A
     Accepted,
@@ -33,7 +35,7 @@ pub enum Event {
 }
 
 // All 24 fields of a line. Numbers stand as numbers, everything else as its bytes.
-#[derive(Drop)]
+#[derive(Clone, Copy)]
 pub struct Record {
     pub timestamp: u64,
     pub event: Event,
@@ -59,7 +61,7 @@ pub struct Record {
 }
 
 // The numbers of a line, as far as its fields were read, the rest 0; or those of the bytes that a host gives.
-#[derive(Drop)]
+#[derive(Clone, Copy)]
 pub struct Numbers {
     pub timestamp: u64,
     pub contracts: u64,
@@ -72,14 +74,14 @@ pub struct Numbers {
 }
 
 // A strike as a line has it.
-#[derive(Drop)]
+#[derive(Clone, Copy)]
 pub struct Strike {
     pub denominator: u8,
     pub digits: u64,
 }
 
 // A time of day.
-#[derive(Drop)]
+#[derive(Clone, Copy)]
 pub struct Clock {
     pub hours: u64,
     pub minutes: u64,

@@ -1,4 +1,6 @@
 // Reading a piece; the value and the form of a strike; the time of day.
+#![tactic(auto)]
+
 mod fields;
 mod strikes;
 mod times;
@@ -9,7 +11,7 @@ use refusal::Refusal;
 pub use strikes::{strike_form, strike_value};
 pub use times::clock;
 
-#[derive(Drop)]
+#[derive(Clone, Copy)]
 pub enum Outcome {
     EndOfDay,
     Line,
@@ -17,33 +19,33 @@ pub enum Outcome {
 }
 
 // An enum holds no array, so the record stands beside it: blank unless the outcome is a line.
-#[derive(Drop)]
+#[derive(Clone, Copy)]
 pub struct Reading {
     pub outcome: Outcome,
     pub line: Record,
 }
 
 // What a group of fields says: its own numbers, the others 0; or the refusal for the first of its fields that breaks its rule.
-#[derive(Drop)]
+#[derive(Clone, Copy)]
 pub(crate) enum Group {
     Lawful(Numbers),
     Refused(Refusal),
 }
 
 // A strike in hundred-thousandths of a dollar.
-#[derive(Drop)]
+#[derive(Clone, Copy)]
 pub enum StrikeValue {
     Value(u64),
     Refused(Refusal),
 }
 
-#[derive(Drop)]
+#[derive(Clone, Copy)]
 pub enum StrikeForm {
     Form(Strike),
     Refused(Refusal),
 }
 
-#[derive(Drop)]
+#[derive(Clone, Copy)]
 pub enum TimeOfDay {
     Time(Clock),
     Refused(Refusal),

@@ -1,4 +1,6 @@
 // A saved day (02, 2): its orders and its quote rows checked, and stored into a lent table. One is read after another, by value.
+#![tactic(auto)]
+
 ghost use Rattle.std.specs.Prelude.{◌+◌, ◌*◌, ◌≤◌, ◌<◌, ◌≡◌, true, length, drop};
 ghost use Rattle.quote.specs.Quotes.{most_rows};
 ghost use Rattle.groups.specs.Taken.{list_in};
@@ -20,7 +22,7 @@ const FORM: u64 = 1;
 const NUMBERS: usize = 4;
 
 // What they say, and the place behind them, where they are those of a day.
-#[derive(Drop)]
+#[derive(Clone, Copy)]
 pub(crate) struct Front {
     pub found: bool,
     pub over: bool,

@@ -1,4 +1,6 @@
 // The orders of a lent table by key, and one order more. A lookup goes by the index of the keys where one stands beside the table, else by a scan.
+#![tactic(auto)]
+
 ghost use Rattle.std.specs.Prelude.{◌*◌, ◌≤◌, ◌<◌, ◌≡◌, true, length};
 ghost use Rattle.day.specs.Machine.{place};
 ghost use Rattle.slot.specs.Places.{place_no};

@@ -1,1 +1,2 @@
 // How a message is read and written by any table of fields stands in specs/, and what is proved of it in proofs/. There is no code here.
+#![tactic(auto)]

@@ -1,4 +1,6 @@
 // An order and its figures, by value.
+#![tactic(auto)]
+
 ghost use Rattle.std.specs.Prelude.{◌≤◌, ◌-◌, ◌≡◌};
 ghost use Rattle.order.specs.Figure.{Sound, fresh_by, executed_by, broken_by, cancelled_by, passed_on};
 ghost use Rattle.order.specs.Names.{key_of, elder_key_of, series_of};
@@ -9,14 +11,14 @@ use layout::Record;
 pub use sound::{is_text, lawful_series, sound_order};
 
 // The six Source bytes and the twenty Token bytes.
-#[derive(Drop)]
+#[derive(Clone, Copy)]
 pub struct Key {
     pub source: [u8; 6],
     pub token: [u8; 20],
 }
 
 // Fields 16 to 21 of a line.
-#[derive(Drop)]
+#[derive(Clone, Copy)]
 pub struct Series {
     pub root: [u8; 6],
     pub month: u8,
@@ -27,7 +29,7 @@ pub struct Series {
 }
 
 // Where the contracts of an order went.
-#[derive(Drop)]
+#[derive(Clone, Copy)]
 pub struct Figures {
     pub size: u64,
     pub executed: u64,
@@ -37,7 +39,7 @@ pub struct Figures {
     pub open: u64,
 }
 
-#[derive(Drop)]
+#[derive(Clone, Copy)]
 pub struct Order {
     pub key: Key,
     pub side: u8,

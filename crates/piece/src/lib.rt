@@ -1,4 +1,6 @@
 // The pieces of a text, one after another. What a piece says is not known here.
+#![tactic(auto)]
+
 ghost use Rattle.std.specs.Prelude.{◌+◌, ◌≤◌, ◌≡◌, true, length, take, drop};
 ghost use Rattle.run.specs.Runs.{all};
 ghost use Rattle.field.specs.Byte.{is_of};
@@ -18,14 +20,14 @@ const FIELDS: usize = 138;
 
 // Where a piece ends, and whether it is known to be plain: of the length of a line, all its bytes but the last two printable. A piece
 // that is not said to be plain may be so.
-#[derive(Drop)]
+#[derive(Clone, Copy)]
 pub struct Span {
     pub end: usize,
     pub plain: bool,
 }
 
 // The next piece of a text, by the place behind it.
-#[derive(Drop)]
+#[derive(Clone, Copy)]
 pub enum Ahead {
     Piece(usize),
     Nothing,

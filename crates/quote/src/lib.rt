@@ -1,4 +1,6 @@
 // Quotes and the rows of their fills, by value (02, 1).
+#![tactic(auto)]
+
 ghost use Rattle.std.specs.Prelude.{◌≡◌};
 ghost use Rattle.quote.specs.Quotes.{most_rows, new_row, quote_of};
 
@@ -16,14 +18,14 @@ pub const ID: usize = 16;
 pub const MOST_EXECUTED: u64 = 4_294_967_295;
 
 // A row stands for each of these. The token of the key holds the id, in its sixteen characters.
-#[derive(Drop)]
+#[derive(Clone, Copy)]
 pub struct Quote {
     pub key: Key,
     pub side: u8,
     pub series: Series,
 }
 
-#[derive(Drop)]
+#[derive(Clone, Copy)]
 pub struct QuoteRow {
     pub quote: Quote,
     pub executed: u64,

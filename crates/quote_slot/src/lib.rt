@@ -1,4 +1,6 @@
 // A quote row at its place in lent bytes (docs/LAYOUT.md), and the row of a quote. Where the first row begins is the caller's to say.
+#![tactic(auto)]
+
 mod finding;
 pub mod offset;
 mod read;

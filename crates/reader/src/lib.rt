@@ -1,5 +1,7 @@
 // A reader over lent text. The borrow checker covers no function over such a struct, so each is proved by hand: four are thin, and `count` and `nth`
 // stand above them with plain parameters, for callers.
+#![tactic(auto)]
+
 ghost use Rattle.std.specs.Prelude.{◌≡◌, length};
 ghost use Rattle.piece.specs.Pieces.{pieces};
 ghost use Rattle.piece.specs.Promises.{Nexts};
@@ -11,7 +13,7 @@ use piece::Ahead;
 
 mod cutter;
 
-#[derive(Drop)]
+#[derive(Clone, Copy)]
 pub struct Reader<'a> {
     text: &'a [u8],
     at: usize,

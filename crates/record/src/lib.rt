@@ -1,4 +1,6 @@
 // A record and its event: made of the bytes and numbers of a line, and asked for its type and its trade. Reading, writing and the bytes for hosts all use it.
+#![tactic(auto)]
+
 mod build;
 mod event;
 
@@ -6,7 +8,7 @@ pub use build::record_of;
 pub use event::{trade_of, type_of};
 
 // The runs of a line are copied in two lots: a function that makes all nine has more facts than the prover reads.
-#[derive(Drop)]
+#[derive(Clone, Copy)]
 pub(crate) struct Parties {
     pub(crate) firm: [u8; 4],
     pub(crate) account: [u8; 4],
@@ -14,7 +16,7 @@ pub(crate) struct Parties {
     pub(crate) clearing: [u8; 5],
 }
 
-#[derive(Drop)]
+#[derive(Clone, Copy)]
 pub(crate) struct Names {
     pub(crate) source: [u8; 6],
     pub(crate) token: [u8; 20],

@@ -1,9 +1,11 @@
 // The numbered refusals of 01 and 02, one home for all of them.
+#![tactic(auto)]
+
 ghost use Rattle.std.specs.Prelude.{◌≡◌};
 ghost use Rattle.refusal.specs.Answer.{code_for};
 ghost use Rattle.refusal.specs.Numbers.{number_of, field_of};
 
-#[derive(Drop)]
+#[derive(Clone, Copy)]
 pub enum Refusal {
     // 1: neither CR LF alone nor 140 bytes ending in CR LF.
     NoLine,

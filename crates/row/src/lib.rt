@@ -1,4 +1,6 @@
 // The heading of the sheet and a row of it: the order at a place, its family and its place in it; and the line of a quote row.
+#![tactic(auto)]
+
 ghost use Rattle.std.specs.Prelude.{◌+◌, ◌≤◌, ◌≡◌, length, take};
 ghost use Rattle.slot.specs.Slots.{order_in};
 ghost use Rattle.slot.specs.Places.{slot, SlotInside};

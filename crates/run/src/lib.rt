@@ -1,4 +1,6 @@
 // Runs of bytes in lent buffers: stored, copied, compared, searched. What they mean is not known here.
+#![tactic(auto)]
+
 ghost use Rattle.std.specs.Prelude.{◌+◌, ◌*◌, ◌^◌, ◌≤◌, ◌<◌, ◌≡◌, [], ◌∷◌, length};
 ghost use Rattle.std.proofs.lemmas.List.Edits.{sets};
 ghost use Rattle.run.specs.Runs.{part, all, is_zero, member as runs_member, same as runs_same};

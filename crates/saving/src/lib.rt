@@ -1,4 +1,6 @@
 // An undamaged table written as a saved day (02, 2): its front, then an entry for each order, then one for each quote row.
+#![tactic(auto)]
+
 ghost use Rattle.std.specs.Prelude.{◌+◌, ◌≤◌, ◌<◌, ◌≡◌, true, leb, length};
 ghost use Rattle.groups.specs.Groups.{Puts};
 ghost use Rattle.saved.specs.Days.{mark_of, saved_day};
@@ -11,7 +13,7 @@ use refusal::Refusal;
 use table::{damage, header};
 
 // The answer: how many bytes were written.
-#[derive(Drop)]
+#[derive(Clone, Copy)]
 pub enum Saved {
     Done(usize),
     Refused(Refusal),

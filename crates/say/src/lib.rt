@@ -1,4 +1,6 @@
 // What the trial program prints, piece by piece.
+#![tactic(auto)]
+
 ghost use Rattle.std.specs.Prelude.{◌<◌};
 
 pub mod show;

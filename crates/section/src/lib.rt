@@ -1,11 +1,13 @@
 // Records of equal width at equal distances in lent bytes. What a record means is not known here.
+#![tactic(auto)]
+
 ghost use Rattle.std.specs.Prelude.{◌≡◌, length};
 ghost use Rattle.std.proofs.lemmas.List.Edits.{sets};
 ghost use Rattle.run.specs.Runs.{same as runs_same};
 ghost use Rattle.section.specs.Sections.{start_of, record_of, Inside};
 
 // Where the first record begins, how far on the next one does, and how wide each is. A key that stands in each record is a section too.
-#[derive(Drop)]
+#[derive(Clone, Copy)]
 pub struct Section {
     pub first: usize,
     pub step: usize,

@@ -1,4 +1,6 @@
 // The family sheet, written into a lent buffer from a lent table.
+#![tactic(auto)]
+
 ghost use Rattle.std.specs.Prelude.{◌≡◌, true};
 ghost use Rattle.table.specs.Tables.{sound};
 ghost use Rattle.sheet.specs.Pages.{Pages, page_of};
@@ -18,14 +20,14 @@ use table::{LIMIT, damage, header};
 const ORDERS: usize = LIMIT as usize;
 
 // The answer: how many bytes were written.
-#[derive(Drop)]
+#[derive(Clone, Copy)]
 pub enum SheetWritten {
     Done(usize),
     Refused(Refusal),
 }
 
 // Where the walk over the orders stands: the first order of the family, the order whose row is next, and the two numbers of that row.
-#[derive(Drop)]
+#[derive(Clone, Copy)]
 struct Turn {
     root: usize,
     place: usize,
@@ -34,7 +36,7 @@ struct Turn {
 }
 
 // Some rows: how many bytes were written, and where the walk then stands.
-#[derive(Drop)]
+#[derive(Clone, Copy)]
 struct Stretch {
     wrote: usize,
     next: Turn,

@@ -1,4 +1,6 @@
 // The sheet program's run over chunks: the start, all of a chunk, the end. What is written out is decided in `feed`; here bytes are only moved.
+#![tactic(auto)]
+
 ghost use Rattle.std.specs.Prelude.{◌≤◌, ◌<◌, ◌≡◌, true, [], length};
 ghost use Rattle.table.specs.Tables.{least_limit, limit_of, sound, table_length};
 ghost use Rattle.lookup.specs.Beside.{Beside};
@@ -7,7 +9,7 @@ ghost use Rattle.feed.specs.Steps.{between, held_in, hold_length, longest, room_
 ghost use Rattle.sheet_run.specs.Promises.{Ends, Takes};
 
 // What a chunk leaves for the next: how much is held, and the number of the piece to come; and whether all that was said is written out.
-#[derive(Drop)]
+#[derive(Clone, Copy)]
 pub struct Kept {
     pub held: usize,
     pub line: u64,

@@ -1,4 +1,6 @@
 // An order at a slot of the lent table (docs/LAYOUT.md), and the earliest order with a key.
+#![tactic(auto)]
+
 mod finding;
 pub mod offset;
 mod read;
@@ -17,7 +19,7 @@ pub const SLOT: usize = 80;
 pub const KEY: usize = 26;
 
 // Of an order, what the conditions and the figures of a line about it ask.
-#[derive(Drop)]
+#[derive(Clone, Copy)]
 pub struct Asked {
     pub side: u8,
     pub series: Series,
@@ -25,7 +27,7 @@ pub struct Asked {
 }
 
 // The earliest order with a key.
-#[derive(Drop)]
+#[derive(Clone, Copy)]
 pub enum Place {
     At(usize),
     Nobody,

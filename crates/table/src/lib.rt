@@ -1,4 +1,6 @@
 // The lent table: its header, the empty table, one order more, its quote rows, the damage check, and what a host asks of it.
+#![tactic(auto)]
+
 mod asked;
 pub mod damage;
 pub mod elders;
@@ -22,14 +24,14 @@ pub const TABLE: usize = slot::HEADER
     + quote_slot::ROW * quote::MOST_ROWS;
 
 // The answer of a lookup for a host.
-#[derive(Drop)]
+#[derive(Clone, Copy)]
 pub enum Found {
     At(usize),
     Refused(Refusal),
 }
 
 // The answer of what is made in a lent buffer: an empty table, a copy of an order.
-#[derive(Drop)]
+#[derive(Clone, Copy)]
 pub enum Made {
     Done,
     Refused(Refusal),

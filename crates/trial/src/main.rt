@@ -1,5 +1,7 @@
 // Runs the entries of the door, the reader and the steps of the sheet program on cases from standard input, for the comparison with the second
 // program (docs/TRIAL.md).
+#![tactic(auto)]
+
 mod ask;
 mod chunks;
 mod space;

@@ -1,4 +1,6 @@
 // A text through the sheet program's run in chunks of given sizes, for the trial.
+#![tactic(auto)]
+
 ghost use Rattle.std.specs.Prelude.{◌+◌, ◌≤◌, ◌<◌, ◌≡◌, true, length};
 ghost use Rattle.table.specs.Tables.{limit_of, sound};
 ghost use Rattle.lookup.specs.Beside.{Beside};

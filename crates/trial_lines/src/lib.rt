@@ -1,4 +1,6 @@
 // The trial cases about one line. A record is its 138 bytes (docs/LAYOUT.md, A record). A case that answers false has printed nothing.
+#![tactic(auto)]
+
 use say::show;
 
 pub fn read(piece: &[u8]) -> bool {

@@ -1,4 +1,6 @@
 // Checking a record, and writing it as its line.
+#![tactic(auto)]
+
 mod lawful;
 mod output;
 
@@ -6,14 +8,14 @@ pub use lawful::check;
 pub use output::write;
 use refusal::Refusal;
 
-#[derive(Drop)]
+#[derive(Clone, Copy)]
 pub enum Written {
     Done,
     Refused(Refusal),
 }
 
 // Whether a record is lawful, or its first unlawful field.
-#[derive(Drop)]
+#[derive(Clone, Copy)]
 pub enum Checked {
     Lawful,
     Unlawful(u8),
