@@ -11,7 +11,7 @@ use lib.ListN.{length}
 use lib.Seq.{sets}
 use Rattle.refusal.specs.Numbers.{number_of, field_of}
 use Rattle.refusal.specs.declared.Refusal.{Refusal}
-use Rattle.refusal.specs.declared.Refusal.TheVariants.{NoLine, BadByte, Field, NoRoom, Damaged, DayOver, KnownKey, UnknownKey, OtherSeries, NotOpen, NotExecuted, Full, RowFull, NoSavedDay}
+use Rattle.refusal.specs.declared.Refusal.TheVariants.{NoLine, BadByte, Field, NoRoom, Damaged, DayOver, KnownKey, UnknownKey, OtherSeries, NotOpen, NotExecuted, Full, RowFull}
 use Rattle.refusal.proofs.OneNumber.{one_refusal}
 use Rattle.refusal.specs.contracts.Refusal.{the_type}
 use Rattle.refusal.proofs.Refusal.TheLaws.{the_laws}
@@ -49,7 +49,6 @@ few NotOpen g = (omega arith, omega arith)
 few NotExecuted g = (omega arith, omega arith)
 few Full g = (omega arith, omega arith)
 few RowFull g = (omega arith, omega arith)
-few NoSavedDay g = (omega arith, omega arith)
 
 pub short : (x : Refusal) → Is (row the_type) x (val the_type the_laws x ∷ [])
     → (length (decimal (number_of x)) ≤ 2) × (length (decimal (number_of x)) + length (field_text (number_of x) (field_of x)) ≤ 11)

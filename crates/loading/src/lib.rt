@@ -8,13 +8,11 @@ ghost use Rattle.saved.specs.Days.{day_in};
 ghost use Rattle.saved.specs.Entries.{saved_order_in, saved_row_in};
 ghost use Rattle.table.specs.Changes.{appended, row_appended};
 ghost use Rattle.table.specs.Tables.{count_in, limit_of, row_count_in};
-ghost use Rattle.loading.specs.Promises.{Loads};
 ghost use Rattle.loading.specs.Loading.{PutsAll, ReadsFront, ReadsRows, StoresDay, end_of_orders, end_of_rows, front_said, is_day, marked_by};
 
 use groups::End;
-use refusal::Refusal;
 use table::elders::FLAGS;
-use table::{Made, TABLE, elders, header};
+use table::{elders, header};
 
 // The numbers in front of a saved day: the form, the mark and the two counts.
 const FORM: u64 = 1;
@@ -219,21 +217,4 @@ pub fn store_day(t: &mut [u8], s: &[u8])
     };
     store_rows(t, s, at, front.rows);
     mark(t, front.over);
-}
-
-// Any bytes for a saved day, any buffer for its table. On a refusal not one byte is changed.
-pub fn load(s: &[u8], t: &mut [u8]) -> Made
-    ensures { Loads s.now t.old result t.new }
-{
-    if t.len() < TABLE {
-        return Made::Refused(Refusal::NoRoom);
-    }
-    if header::limit(t.len()) == 0 {
-        return Made::Refused(Refusal::Damaged);
-    }
-    if !is_day(s) {
-        return Made::Refused(Refusal::NoSavedDay);
-    }
-    store_day(t, s);
-    Made::Done
 }

@@ -2,5 +2,3 @@
 pub mod Numbers
 -- What every entry says: a value or a refusal
 pub mod Answer
--- A text into a lent buffer: how long it is, or 4
-pub mod Texts

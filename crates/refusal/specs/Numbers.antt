@@ -1,9 +1,9 @@
 -- What each refusal is in the paper's numbers.
 use Rattle.std.specs.Prelude.{ℕ}
 use Rattle.refusal.specs.declared.Refusal.{Refusal}
-use Rattle.refusal.specs.declared.Refusal.TheVariants.{NoLine, BadByte, Field, NoRoom, Damaged, DayOver, KnownKey, UnknownKey, OtherSeries, NotOpen, NotExecuted, Full, RowFull, NoSavedDay}
+use Rattle.refusal.specs.declared.Refusal.TheVariants.{NoLine, BadByte, Field, NoRoom, Damaged, DayOver, KnownKey, UnknownKey, OtherSeries, NotOpen, NotExecuted, Full, RowFull}
 
--- 01, Refusals by number: the first column; 02, 1: 13; 02, 2: 14
+-- 01, Refusals by number: the first column; 02, 1: 13
 abbrev pub number_of : Refusal → ℕ
 number_of NoLine = 1
 number_of BadByte = 2
@@ -18,7 +18,6 @@ number_of NotOpen = 10
 number_of NotExecuted = 11
 number_of Full = 12
 number_of RowFull = 13
-number_of NoSavedDay = 14
 
 -- 01, Refusals by number, 3: the number of the first field comes with it; 0 for any other
 abbrev pub field_of : Refusal → ℕ
@@ -35,4 +34,3 @@ field_of NotOpen = 0
 field_of NotExecuted = 0
 field_of Full = 0
 field_of RowFull = 0
-field_of NoSavedDay = 0

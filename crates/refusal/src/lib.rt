@@ -33,8 +33,6 @@ pub enum Refusal {
     Full,
     // 13: no quote row is left, or its executed would be too large.
     RowFull,
-    // 14: the bytes are no saved day, or describe a damaged table.
-    NoSavedDay,
 }
 
 // The paper's number.
@@ -55,7 +53,6 @@ pub fn number(r: Refusal) -> u8
         Refusal::NotExecuted => 11,
         Refusal::Full => 12,
         Refusal::RowFull => 13,
-        Refusal::NoSavedDay => 14,
     }
 }
 
@@ -77,7 +74,6 @@ pub fn field(r: Refusal) -> u8
         Refusal::NotExecuted => 0,
         Refusal::Full => 0,
         Refusal::RowFull => 0,
-        Refusal::NoSavedDay => 0,
     }
 }
 

@@ -9,7 +9,6 @@ use lib.Dec.{leb, ltb}
 use lib.ListN.{length, drop, take, length-drop}
 use lib.Seq.{drop-drop, take-add, take_all}
 use Rattle.refusal.specs.Answer.{Answer, value, refused}
-use Rattle.refusal.specs.Texts.{text_answer, text_from}
 use Rattle.refusal.specs.declared.Refusal.TheVariants.{NoRoom}
 use Rattle.order.specs.declared.Order.{Order}
 use Rattle.day.specs.Case.{WholeCase, whole_case}
@@ -24,7 +23,7 @@ use Rattle.slot.specs.Places.{orders_in}
 use Rattle.slot.proofs.Laws.{length_orders}
 use Rattle.table.specs.Tables.{count_in, sound, table_in}
 use Rattle.sheet.specs.Pages.{Pages, page_of, page_of_sheet, row_by_row}
-use Rattle.sheet.specs.Promises.{sheet_written_of}
+use Rattle.sheet.specs.Promises.{sheet_written_of, text_answer, text_from}
 use Rattle.sheet.specs.Texts.{families_text, rows_text}
 use Rattle.sheet.specs.Walk.{elders_in, members_left, stretch_text, text_left}
 use Rattle.sheet.specs.declared.Turn.{Turn}

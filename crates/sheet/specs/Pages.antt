@@ -1,10 +1,9 @@
 -- A page of the sheet: so many of its rows, from a row on. One row is a page too, which a later request (02, ticket 10) writes by its number.
 use Rattle.std.specs.Prelude.{ℕ, zero, suc, ◌+◌, ◌≡◌, List, [], ◌++◌, drop, take}
-use Rattle.refusal.specs.Texts.{text_answer, text_from}
 use Rattle.day.specs.Listing.{Sheet}
 use Rattle.day.specs.Walk.{sheet_of}
 use Rattle.table.specs.Tables.{table_in}
-use Rattle.sheet.specs.Promises.{sheet_written_of}
+use Rattle.sheet.specs.Promises.{sheet_written_of, text_answer, text_from}
 use Rattle.sheet.specs.Texts.{rows_text}
 use Rattle.sheet.specs.declared.SheetWritten.{SheetWritten}
 

@@ -1,7 +1,7 @@
 -- What writing the sheet promises.
-use Rattle.std.specs.Prelude.{ℕ, ◌≡◌, cond, List}
+use Rattle.std.specs.Prelude.{ℕ, ◌≡◌, cond, List, ltb, length}
+use Rattle.std.proofs.lemmas.List.Edits.{sets}
 use Rattle.refusal.specs.Answer.{Answer, value, refused, refused_by}
-use Rattle.refusal.specs.Texts.{text_answer, text_from}
 use Rattle.table.specs.Tables.{table_in, sound}
 use Rattle.sheet.specs.Texts.{quotes_text, sheet_text}
 use Rattle.sheet.specs.declared.SheetWritten.{SheetWritten}
@@ -19,6 +19,15 @@ section_of s = quotes_text (table_in s).quotes
 abbrev pub sheet_written_of : SheetWritten → Answer ℕ
 sheet_written_of (Done n) = value n
 sheet_written_of (Refused x) = refused_by x
+
+-- 01, Refusals by number: 4: a text into a lent buffer
+abbrev pub text_answer : List ℕ → List ℕ → Answer ℕ
+text_answer text before = cond (ltb (length before) (length text)) (refused 4 0) (value (length text))
+
+-- only the bytes it needs, from the front; refused, not one
+abbrev pub text_from : Answer ℕ → List ℕ → List ℕ → List ℕ
+text_from (value n) text before = sets before 0 text
+text_from (refused n f) text before = before
 
 -- 01, Order of checks: Sheet: 5, 4
 unfoldable pub sheet_answer : List ℕ → List ℕ → Answer ℕ
