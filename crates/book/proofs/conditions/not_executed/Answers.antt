@@ -1,0 +1,20 @@
+-- `book::conditions::not_executed` meets its contract.
+use Rattle.book.proofs.conditions.not_executed.Goals as goal
+
+pub returns-in-Accepted : goal.returns-in-Accepted
+returns-in-Accepted c = rw c.in-Accepted.is
+
+pub returns-in-Executed : goal.returns-in-Executed
+returns-in-Executed c = rw c.in-Executed.is
+
+pub returns-in-Cancelled : goal.returns-in-Cancelled
+returns-in-Cancelled c = rw c.in-Cancelled.is
+
+pub returns-in-Broken : goal.returns-in-Broken
+returns-in-Broken c = rw c.in-Broken.is
+
+pub returns-in-Replaced : goal.returns-in-Replaced
+returns-in-Replaced c = rw c.in-Replaced.is
+
+pub returns-in-Repriced : goal.returns-in-Repriced
+returns-in-Repriced c = rw c.in-Repriced.is

@@ -1,0 +1,18 @@
+-- `feed::hold::book_piece` meets its contract: a line is written for a refusal, and nothing for a piece that is booked.
+use Rattle.feed.proofs.Saying.{booked_says, refused_says}
+use Rattle.feed.proofs.hold.book_piece.Goals as goal
+
+pub returns-in-Booked : goal.returns-in-Booked
+returns-in-Booked c =
+    let a = c.args in
+    let booked = c.book_sound in
+    let s = booked_says a.line a.t.now a.piece.now booked.result c.in-Booked.is booked.ensures.books in
+    record { wrote = s.0; t_after = s.1; beside_2 = booked.ensures.beside_2 }
+
+pub returns-in-Refused : goal.returns-in-Refused
+returns-in-Refused c =
+    let a = c.args in
+    let booked = c.book_sound in
+    let x = c.x-1.given in
+    let s = refused_says a.line a.t.now a.piece.now booked.result x.0.0 x.1 booked.ensures.books c.refused.ensures in
+    record { wrote = s.0; t_after = s.1; beside_2 = booked.ensures.beside_2 }

@@ -1,0 +1,108 @@
+-- `feed::step` meets its contract: at each turn, what was done and what is left to do are the step over the chunk.
+use Prim.Native.Nat.{◌≤◌, ◌<◌}
+use native.Mathlib.Omega.{arith}
+use mathlib.Core.Path.{refl}
+use lib.ListN.{length}
+use Rattle.piece.proofs.Lent.{piece_bounds, plain_lent}
+use Rattle.feed.proofs.Turns.{first_turn, same_long, room_lent, room_said, at_chunk_end, keeps_begun, stops, next_turn}
+use borrow.Author.Rules.{rules}
+use Rattle.feed.proofs.step.Goals as goal
+use Rattle.feed.proofs.step.Goals.{After-cut-cut}
+
+-- that piece lies in the chunk
+bounds : (c : After-cut-cut) → (c.loop-used.used < c.cut-cut.result.end) × (c.cut-cut.result.end ≤ length c.args.chunk.now)
+bounds c = piece_bounds c.args.chunk.now c.loop-used.used c.cut-cut.result.end c.loop-used-test.true c.cut-cut.ensures.ends
+
+pub loop-used-init : goal.loop-used-init
+loop-used-init c =
+    let a = c.args in
+    (first_turn a.chunk.now a.t.now a.hold.now a.out.now a.held a.line c.requires.t_value (search rules) (search rules), c.requires.beside, refl, refl)
+
+pub overflow_sub-end : goal.overflow_sub-end
+overflow_sub-end c = search (rules, bounds c)
+
+pub bounds-chunk-end : goal.bounds-chunk-end
+bounds-chunk-end c = search (rules, bounds (goal.at.bounds-chunk-end c).After-cut-cut)
+
+pub slice_bounds-keep-end : goal.slice_bounds-keep-end
+slice_bounds-keep-end c = search (rules, bounds (goal.at.slice_bounds-keep-end c).After-cut-cut)
+
+pub keep-begun-requires : goal.keep-begun-requires
+keep-begun-requires c = let turn = c.loop-used.invariant.0 in
+    record { hold_len = turn.long; held_le_hold_length = turn.few }
+
+pub shape_of-t-then-chunk-end-ne-LF : goal.shape_of-t-then-chunk-end-ne-LF
+shape_of-t-then-chunk-end-ne-LF c = c.loop-used.invariant.0.table
+
+pub shape_of-heads-then-chunk-end-ne-LF : goal.shape_of-heads-then-chunk-end-ne-LF
+shape_of-heads-then-chunk-end-ne-LF c = c.loop-used.invariant.2
+
+pub shape_of-nexts-then-chunk-end-ne-LF : goal.shape_of-nexts-then-chunk-end-ne-LF
+shape_of-nexts-then-chunk-end-ne-LF c = c.loop-used.invariant.3
+
+pub shape_of-out-then-chunk-end-ne-LF : goal.shape_of-out-then-chunk-end-ne-LF
+shape_of-out-then-chunk-end-ne-LF c = same_long c.loop-used.invariant.0
+
+pub returns-then-chunk-end-ne-LF : goal.returns-then-chunk-end-ne-LF
+returns-then-chunk-end-ne-LF c =
+    let inv = c.loop-used.invariant in
+    let kept = c.keep-begun.ensures in
+    record { fits = keeps_begun inv.0 c.cut-cut.result.end c.loop-used-test.true c.cut-cut.ensures.ends c.if-chunk-end-ne-LF.true kept.0 kept.1.0 kept.1.1; t_after = inv.0.good; beside_2 = inv.1 }
+
+pub overflow_sub-out : goal.overflow_sub-out
+overflow_sub-out c = search (rules, same_long c.loop-used.invariant.0)
+
+pub shape_of-t-then-out-wrote-lt-LONGEST : goal.shape_of-t-then-out-wrote-lt-LONGEST
+shape_of-t-then-out-wrote-lt-LONGEST c = c.loop-used.invariant.0.table
+
+pub shape_of-heads-then-out-wrote-lt-LONGEST : goal.shape_of-heads-then-out-wrote-lt-LONGEST
+shape_of-heads-then-out-wrote-lt-LONGEST c = c.loop-used.invariant.2
+
+pub shape_of-nexts-then-out-wrote-lt-LONGEST : goal.shape_of-nexts-then-out-wrote-lt-LONGEST
+shape_of-nexts-then-out-wrote-lt-LONGEST c = c.loop-used.invariant.3
+
+pub shape_of-out-then-out-wrote-lt-LONGEST : goal.shape_of-out-then-out-wrote-lt-LONGEST
+shape_of-out-then-out-wrote-lt-LONGEST c = same_long c.loop-used.invariant.0
+
+pub returns-then-out-wrote-lt-LONGEST : goal.returns-then-out-wrote-lt-LONGEST
+returns-then-out-wrote-lt-LONGEST c =
+    let inv = c.loop-used.inv in
+    record { fits = stops inv.0 c.cut-cut.result.end c.loop-used-test.taken c.cut-cut.ensures.ends c.if-chunk-end-ne-LF.false c.if-out-wrote-lt-LONGEST.true; t_after = inv.0.good; beside_2 = inv.1 }
+
+pub slice_bounds-book_part-end : goal.slice_bounds-book_part-end
+slice_bounds-book_part-end c = search (rules, bounds (goal.at.slice_bounds-book_part-end c).After-cut-cut)
+
+pub book_part-said-requires : goal.book_part-said-requires
+book_part-said-requires c =
+    let inv = c.loop-used.inv in
+    record { t_value = inv.0.good; beside = inv.1; hold_len = inv.0.long; held_le_hold_length = inv.0.few; longest_in_bounds = room_lent inv.0 c.if-out-wrote-lt-LONGEST.false; part_value = λ e. plain_lent _ _ _ c.cut-cut.ensures.ends (c.cut-cut.ensures.plain e) }
+
+pub overflow_add-wrote : goal.overflow_add-wrote
+overflow_add-wrote c =
+    search (rules, c.good, room_said c.loop-used.inv.0 c.if-out-wrote-lt-LONGEST.left _ c.book_part-said.ensures.wrote)
+
+pub loop-used-smaller : goal.loop-used-smaller
+loop-used-smaller c = omega (arith, bounds (to-piece (goal.at.loop-used-smaller c).Else-chunk-end-ne-LF))
+
+pub loop-used-preserved : goal.loop-used-preserved
+loop-used-preserved c =
+    let said = c.book_part-said.ensures in
+    let inv = c.loop-used.inv in
+    (next_turn inv.0 c.cut-cut.result.end c.loop-used-test.taken c.cut-cut.ensures.ends c.if-chunk-end-ne-LF.left c.if-out-wrote-lt-LONGEST.left (said.0, said.1.0) said.1.1.1 c.next_line-number.ensures, said.1.1.0, search rules, search rules)
+
+pub shape_of-t : goal.shape_of-t
+shape_of-t c = c.loop-used.invariant.0.table
+
+pub shape_of-heads : goal.shape_of-heads
+shape_of-heads c = c.loop-used.invariant.2
+
+pub shape_of-nexts : goal.shape_of-nexts
+shape_of-nexts c = c.loop-used.invariant.3
+
+pub shape_of-out : goal.shape_of-out
+shape_of-out c = same_long c.loop-used.invariant.0
+
+pub returns : goal.returns
+returns c =
+    let inv = c.loop-used.invariant in
+    record { fits = at_chunk_end inv.0 c.loop-used-test.false; t_after = inv.0.good; beside_2 = inv.1 }

@@ -1,0 +1,7 @@
+-- `field::digits::exactly` meets its contract.
+use mathlib.Core.Path.{◌∙◌, ap}
+use Rattle.field.specs.Number.{within}
+use Rattle.field.proofs.digits.exactly.Goals as goal
+
+pub returns : goal.returns
+returns c = c.within.ensures ∙ ap (within _ _) c.digits_only.ensures

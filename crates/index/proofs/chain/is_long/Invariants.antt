@@ -1,0 +1,9 @@
+-- `index::chain::is_long` stays inside the entries: a chain falls, so each of its records is before the first.
+use Rattle.std.proofs.Common.{◌≤◌}
+use Rattle.index.proofs.chain.is_long.Given as goal
+
+abbrev pub invariant-loop-left : goal.invariant-loop-left
+invariant-loop-left l = l.at ≤ l.first
+
+abbrev pub decreases-loop-left : goal.decreases-loop-left
+decreases-loop-left l = l.left

@@ -1,0 +1,6 @@
+-- `sheet::kin::younger` meets its contract: it reads what is noted.
+use native.Mathlib.Omega.{arith}
+use Rattle.sheet.proofs.kin.younger.Goals as goal
+
+pub overflow_cast-result : goal.overflow_cast-result
+overflow_cast-result c = omega (arith, c.shared_slice_known-1.given c.args.i)

@@ -1,0 +1,28 @@
+-- `sheet_run::begin` meets its contract: a buffer whose length has a meaning is never refused, and the empty table is indexed.
+use Prim.Native.Nat.{ℕ, ◌≤◌, ◌<◌}
+use mathlib.Core.Path.{◌≡◌, ap, ◌∙◌}
+use mathlib.Core.List.{List, []}
+use lib.ListN.{length}
+use Rattle.table.specs.Promises.{Makes}
+use Rattle.table.specs.Tables.{limit_of, made_from}
+use Rattle.table.specs.declared.Made.{Made}
+use Rattle.table.proofs.Making.{taken}
+use Rattle.book.specs.Bytes.{bytes_after}
+use Rattle.sheet_run.proofs.Leading.{begun_sound}
+use Rattle.sheet_run.proofs.begin.Goals as goal
+
+never_refused : (before : List ℕ) {x : Made} {after : List ℕ} → 0 < limit_of (length before) → Makes before x after → after ≡ bytes_after before []
+never_refused before meant m = m.out ∙ ap (λ a. made_from a before) (taken before meant)
+
+room_for_all : (n m k : ℕ) → n ≡ m → limit_of m ≤ k → limit_of n ≤ k
+room_for_all n m k e h = rw e h
+
+pub build-requires : goal.build-requires
+build-requires c =
+    let made = c.make_empty in
+    let before = c.args.t.now in
+    record { t_value = begun_sound before (never_refused before c.requires.nonzero made.ensures) c.requires.nonzero; in_bounds = c.requires.in_bounds.0; t_in_bounds = room_for_all _ _ _ made.auto.0 c.requires.in_bounds.1 }
+
+pub returns : goal.returns
+returns c =
+    record { t_after = never_refused c.args.t.now c.requires.nonzero c.make_empty.ensures; beside = c.build.ensures }

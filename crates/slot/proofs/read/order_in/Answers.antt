@@ -1,0 +1,16 @@
+-- `slot::read::order_in` meets its contract.
+use lib.ListN.{get_or}
+use Rattle.slot.proofs.read.order_in.Goals as goal
+
+pub returns : goal.returns
+returns c =
+    let s = c.args.b.now in
+    λ i.
+    record {
+      key = c.key_in.ensures i;
+      side = get_or s 26 0;
+      series = c.series_in.ensures i;
+      price = c.get.ensures i;
+      elder = c.get-2.ensures i;
+      figures = c.figures_in.ensures i;
+    }
