@@ -13,9 +13,8 @@ returns-in_default c =
 
 pub loop-i-preserved : goal.loop-i-preserved
 loop-i-preserved c =
-    let one = c.v-1.given in
-    got_next c.loop-i.invariant one.0.0 one.0.1.0 (search rules)
-    (sym one.1 ∙ c.get.ensures)
+    got_next c.loop-i.invariant c.in-Value.v c.in-Value.next (search rules)
+    (sym c.in-Value.is ∙ c.get.ensures)
 
 pub returns : goal.returns
 returns c = got_end c.loop-i.invariant (search rules)

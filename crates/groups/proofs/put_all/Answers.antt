@@ -12,7 +12,7 @@ put-place-requires c = put_all_room c.loop-i.invariant (search rules) c.requires
 pub loop-i-preserved : goal.loop-i-preserved
 loop-i-preserved c =
     let put = c.put-place in
-    put_all_next c.loop-i.invariant put.result put.new.0 (search rules) put.ensures
+    put_all_next c.loop-i.invariant put.result put.new.out (search rules) put.ensures
 
 pub returns : goal.returns
 returns c = put_all_end c.loop-i.invariant (search rules)

@@ -19,16 +19,16 @@ room : (c : After-unpadded-n) → let a = c.args in
 room c = (omega (arith, long c, c.requires), omega (arith, c.type_inv.0))
 
 -- the output stays as long as it was
-kept-1 : (c : After-store) → length c.store.new.0 ≡ length (start ⟪After-unpadded-n⟫).args.out.now
+kept-1 : (c : After-store) → length c.store.new.out ≡ length (start ⟪After-unpadded-n⟫).args.out.now
 kept-1 c = c.store.auto.0
 
-kept-2 : (c : After-store-2) → length c.store-2.new.0 ≡ length (start ⟪After-unpadded-n⟫).args.out.now
+kept-2 : (c : After-store-2) → length c.store-2.new.out ≡ length (start ⟪After-unpadded-n⟫).args.out.now
 kept-2 c = c.store-2.auto.0 ∙ kept-1 ⟪After-store⟫
 
-kept-3 : (c : After-store-3) → length c.store-3.new.0 ≡ length (start ⟪After-unpadded-n⟫).args.out.now
+kept-3 : (c : After-store-3) → length c.store-3.new.out ≡ length (start ⟪After-unpadded-n⟫).args.out.now
 kept-3 c = c.store-3.auto.0 ∙ kept-2 ⟪After-store-2⟫
 
-kept-4 : (c : After-store-4) → length c.store-4.new.0 ≡ length (start ⟪After-unpadded-n⟫).args.out.now
+kept-4 : (c : After-store-4) → length c.store-4.new.out ≡ length (start ⟪After-unpadded-n⟫).args.out.now
 kept-4 c = c.store-4.auto.0 ∙ kept-3 ⟪After-store-3⟫
 
 pub store-requires-2 : goal.store-requires-2

@@ -17,7 +17,7 @@ returns-then-space-front c =
 
 pub loop-i-init : goal.loop-i-init
 loop-i-init c =
-    let room : length c.put_front-front.new.1.0 ≡ 115 = search rules in
+    let room : length c.put_front-front.new.out ≡ 115 = search rules in
     (room, measure_first c.args.t.now c.put_front-front.ensures.next c.entries-n.ensures c.if-space-front.false)
 
 pub put_entry-long-requires : goal.put_entry-long-requires
@@ -31,7 +31,7 @@ returns-then-left-long c =
 
 pub loop-i-preserved : goal.loop-i-preserved
 loop-i-preserved c =
-    let room : length c.put_entry-long.new.1.1.0 ≡ 115 = search rules in
+    let room : length c.put_entry-long.new.buffer ≡ 115 = search rules in
     (room, measure_next c.loop-i.invariant.1 c.loop-i-test.true c.put_entry-long.ensures.next c.if-left-long.false)
 
 pub returns : goal.returns

@@ -21,7 +21,7 @@ lay_entry-at-requires c =
 
 pub loop-k-preserved : goal.loop-k-preserved
 loop-k-preserved c =
-    let room : length c.lay_entry-at.new.1.1.0 ≡ 115 = search rules in
+    let room : length c.lay_entry-at.new.buffer ≡ 115 = search rules in
     (room, lay_next c.loop-k.invariant.1 c.loop-k-test.true c.lay_entry-at.ensures)
 
 pub shape_of-out : goal.shape_of-out

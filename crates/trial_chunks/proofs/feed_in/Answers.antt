@@ -14,7 +14,7 @@ feed_chunks-kept-requires c =
 pub end-requires : goal.end-requires
 end-requires c =
     let fed = c.feed_chunks-kept in
-    let whole = same_len_mid 0 (c.args.room - 0) c.args.out.now fed.new.1.1.1.1.1.1.0 fed.auto.1.1.1.1.1.1.0 in
+    let whole = same_len_mid 0 (c.args.room - 0) c.args.out.now fed.new.out fed.auto.1.1.1.1.1.1.0 in
     let room = room_kept (fed.auto.1.1.0 ∙ c.begin.auto.0) whole c.requires.t_in_bounds in
     record { t_value = fed.ensures.held_le_hold_length.1; beside = fed.ensures.beside_2; hold_len = fed.ensures.held_le_hold_length.2; held_le_hold_length = fed.ensures.held_le_hold_length.0; t_in_bounds = room }
 

@@ -30,10 +30,9 @@ overflow_add-i c =
 pub append-requires-in-Replace : goal.append-requires-in-Replace
 append-requires-in-Replace c =
     let t = c.args.t.now in
-    let plan = c.plan-in-Replace-1.given in
-    let room = room_for t _ _ plan.1 c.requires.room_for in
+    let room = room_for t _ _ c.in-Replace.is c.requires.room_for in
     let done = c.refigure-in-Replace.ensures in
-    record { t_bound = free_kept t _ plan.0.0 plan.0.1.0 done room.1; beside = refigured_beside t _ plan.0.0 room.0 c.requires.beside plan.0.1.0 done }
+    record { t_bound = free_kept t _ c.in-Replace.i c.in-Replace.f done room.1; beside = refigured_beside t _ c.in-Replace.i room.0 c.requires.beside c.in-Replace.f done }
 
 pub append_row-requires : goal.append_row-requires
 append_row-requires c = let both = room_for c.args.t.now _ _ c.in-NewRow.is c.requires.room_for in
@@ -45,8 +44,7 @@ resum-requires c =
 
 pub returns-in-No : goal.returns-in-No
 returns-in-No c =
-    let plan = c.plan-1.given in
-    record { carried = carried c.args.t.now c.args.r _ _ (Refused plan.0.0) _ plan.1 refl refl; beside_2 = search rules }
+    record { carried = carried c.args.t.now c.args.r _ _ (Refused c.in-No.x) _ c.in-No.is refl refl; beside_2 = search rules }
 
 pub returns-in-New : goal.returns-in-New
 returns-in-New c =
@@ -57,24 +55,21 @@ returns-in-New c =
 pub returns-in-Change : goal.returns-in-Change
 returns-in-Change c =
     let t = c.args.t.now in
-    let plan = c.plan-in-Change-1.given in
     let done = c.refigure.ensures in
-    record { carried = carried t c.args.r _ _ Booked _ plan.1 refl done; beside_2 = refigured_beside t _ plan.0.0 (room_for t _ _ plan.1 c.requires.room_for) c.requires.beside plan.0.1.0 done }
+    record { carried = carried t c.args.r _ _ Booked _ c.in-Change.is refl done; beside_2 = refigured_beside t _ c.in-Change.i (room_for t _ _ c.in-Change.is c.requires.room_for) c.requires.beside c.in-Change.f done }
 
 pub returns-in-Price : goal.returns-in-Price
 returns-in-Price c =
     let t = c.args.t.now in
-    let plan = c.plan-in-Price-1.given in
     let done = c.reprice.ensures in
-    record { carried = carried t c.args.r _ _ Booked _ plan.1 refl done; beside_2 = repriced_beside t _ plan.0.0 (room_for t _ _ plan.1 c.requires.room_for) c.requires.beside plan.0.1.0 done }
+    record { carried = carried t c.args.r _ _ Booked _ c.in-Price.is refl done; beside_2 = repriced_beside t _ c.in-Price.i (room_for t _ _ c.in-Price.is c.requires.room_for) c.requires.beside c.in-Price.p done }
 
 pub returns-in-Replace : goal.returns-in-Replace
 returns-in-Replace c =
     let t = c.args.t.now in
-    let plan = c.plan-in-Replace-1.given in
     let done = c.append-in-Replace.ensures in
-    let out = one_replaced t _ _ plan.0.0 plan.0.1.0 c.args.r _ c.refigure-in-Replace.ensures c.new_order-in-Replace.ensures done.0 in
-    record { carried = carried t c.args.r _ _ Booked _ plan.1 refl out; beside_2 = done.1 }
+    let out = one_replaced t _ _ c.in-Replace.i c.in-Replace.f c.args.r _ c.refigure-in-Replace.ensures c.new_order-in-Replace.ensures done.0 in
+    record { carried = carried t c.args.r _ _ Booked _ c.in-Replace.is refl out; beside_2 = done.1 }
 
 pub returns-in-NewRow : goal.returns-in-NewRow
 returns-in-NewRow c =
@@ -86,6 +81,5 @@ returns-in-NewRow c =
 pub returns-in-Sums : goal.returns-in-Sums
 returns-in-Sums c =
     let t = c.args.t.now in
-    let plan = c.plan-in-Sums-1.given in
     let done = c.resum.ensures in
-    record { carried = carried t c.args.r _ _ Booked _ plan.1 refl done; beside_2 = resummed_beside c.requires.t_value c.requires.beside _ plan.0.0 plan.0.1.0 plan.0.1.1.0 done }
+    record { carried = carried t c.args.r _ _ Booked _ c.in-Sums.is refl done; beside_2 = resummed_beside c.requires.t_value c.requires.beside _ c.in-Sums.i c.in-Sums.executed c.in-Sums.broken done }

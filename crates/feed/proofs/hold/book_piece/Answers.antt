@@ -13,6 +13,5 @@ pub returns-in-Refused : goal.returns-in-Refused
 returns-in-Refused c =
     let a = c.args in
     let booked = c.book_sound in
-    let x = c.x-1.given in
-    let s = refused_says a.line a.t.now a.piece.now booked.result x.0.0 x.1 booked.ensures.books c.refused.ensures in
+    let s = refused_says a.line a.t.now a.piece.now booked.result c.in-Refused.x c.in-Refused.is booked.ensures.books c.refused.ensures in
     record { wrote = s.0; t_after = s.1; beside_2 = booked.ensures.beside_2 }

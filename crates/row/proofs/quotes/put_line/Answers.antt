@@ -16,13 +16,13 @@ room c =
     (omega (arith, long, c.put_fills-end.ensures.end, c.requires), omega (arith, c.type_inv.0))
 
 -- the output stays as long as it was
-kept-0 : (c : After-put_fills-end) → length c.put_fills-end.new.0 ≡ length c.args.out.now
+kept-0 : (c : After-put_fills-end) → length c.put_fills-end.new.out ≡ length c.args.out.now
 kept-0 c = c.put_fills-end.auto.0
 
-kept-1 : (c : After-store) → length c.store.new.0 ≡ length (start ⟪After-put_fills-end⟫).args.out.now
+kept-1 : (c : After-store) → length c.store.new.out ≡ length (start ⟪After-put_fills-end⟫).args.out.now
 kept-1 c = c.store.auto.0 ∙ kept-0 ⟪After-put_fills-end⟫
 
-kept-2 : (c : After-store-2) → length c.store-2.new.0 ≡ length (start ⟪After-put_fills-end⟫).args.out.now
+kept-2 : (c : After-store-2) → length c.store-2.new.out ≡ length (start ⟪After-put_fills-end⟫).args.out.now
 kept-2 c = c.store-2.auto.0 ∙ kept-1 ⟪After-store⟫
 
 pub put_fills-end-requires : goal.put_fills-end-requires

@@ -26,4 +26,4 @@ pub returns : goal.returns
 returns c =
     let a = c.args in
     let done = c.copy in
-    subst (λ n. CopiesOf slots n a.t.now a.i a.out.now done.result done.new.1.1.1.1.0) c.count.ensures done.ensures
+    subst (λ n. CopiesOf slots n a.t.now a.i a.out.now done.result done.new.out) c.count.ensures done.ensures

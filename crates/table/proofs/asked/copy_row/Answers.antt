@@ -26,4 +26,4 @@ pub returns : goal.returns
 returns c =
     let a = c.args in
     let done = c.copy in
-    rows_at (λ b n. CopiesOf (rows b) n a.t.now a.i a.out.now done.result done.new.1.1.1.1.0) (sym c.base-first.ensures) (sym c.row_count.ensures) done.ensures
+    rows_at (λ b n. CopiesOf (rows b) n a.t.now a.i a.out.now done.result done.new.out) (sym c.base-first.ensures) (sym c.row_count.ensures) done.ensures
