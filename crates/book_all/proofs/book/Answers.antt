@@ -1,6 +1,7 @@
 -- `book_all::book` meets its contract.
+use mathlib.Core.Bool.{not}
 use native.Mathlib.Omega.{arith}
-use mathlib.Core.Path.{sym, ◌∙◌}
+use mathlib.Core.Path.{sym, ◌∙◌, ap}
 use borrow.Author.Tests.{not-true, not-false}
 use lib.ListN.{length}
 use Rattle.table.proofs.Limits.{limit_most}
@@ -9,12 +10,12 @@ use Rattle.book_all.proofs.book.Goals as goal
 
 pub returns-then-not-is_sound : goal.returns-then-not-is_sound
 returns-then-not-is_sound c =
-    damaged c.args.t.now c.args.text.now c.args.answers.now (sym c.is_sound.ensures ∙ not-true _ c.if-not-is_sound.true)
+    damaged c.args.t.now c.args.text.now c.args.answers.now (sym c.is_sound.ensures ∙ not-true _ (ap not c.if-not-is_sound.true))
 
 pub build-requires : goal.build-requires
 build-requires c =
-    record { t_value = sym c.is_sound.ensures ∙ not-false _ c.if-not-is_sound.false; in_bounds = omega (arith, c.heads_buffer-heads.ensures); t_in_bounds = omega (arith, c.nexts_buffer-nexts.ensures, limit_most (length c.args.t.now)) }
+    record { t_value = sym c.is_sound.ensures ∙ not-false _ (ap not c.if-not-is_sound.false); in_bounds = omega (arith, c.heads_buffer-heads.ensures); t_in_bounds = omega (arith, c.nexts_buffer-nexts.ensures, limit_most (length c.args.t.now)) }
 
 pub book_pieces-requires : goal.book_pieces-requires
 book_pieces-requires c =
-    record { t_value = sym c.is_sound.ensures ∙ not-false _ c.if-not-is_sound.false; beside = c.build.ensures }
+    record { t_value = sym c.is_sound.ensures ∙ not-false _ (ap not c.if-not-is_sound.false); beside = c.build.ensures }

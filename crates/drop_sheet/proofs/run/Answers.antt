@@ -1,6 +1,6 @@
 -- `drop_sheet::run` meets its contract: from the empty table, over what is read, to the end.
-use mathlib.Core.Path.{◌∙◌}
-use mathlib.Core.Bool.{false≢true}
+use mathlib.Core.Path.{◌∙◌, ap}
+use mathlib.Core.Bool.{false≢true, not}
 use borrow.Author.Tests.{not-false}
 use Rattle.sheet_run.proofs.Leading.{room_kept, begun_sound, all_printed}
 use borrow.Author.Rules.{rules}
@@ -45,4 +45,4 @@ returns c =
     let room = room_kept (c.read_all-kept.kept.0 ∙ c.begin.kept.0) c.read_all-kept.kept.1.1.1.1.1.0 c.pre.1.1.1 in
     λ _.
     all_printed c.args.t.now c.begin.ensures.t_after c.read_all-kept.ensures.reads
-    (not-false c.read_all-kept.result.good c.if-not-kept.false) c.end.ensures room
+    (not-false c.read_all-kept.result.good (ap not c.if-not-kept.false)) c.end.ensures room

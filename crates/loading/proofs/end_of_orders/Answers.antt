@@ -1,5 +1,6 @@
 -- `loading::end_of_orders` meets its contract: the orders read so far are undamaged and seen; one that may not follow damages all, whatever stands behind it.
-use mathlib.Core.Path.{refl}
+use mathlib.Core.Bool.{not}
+use mathlib.Core.Path.{refl, ap}
 use native.Mathlib.Omega.{arith}
 use borrow.Author.Rules.{rules}
 use Rattle.table.proofs.Answers.{refuted, upheld}
@@ -18,20 +19,20 @@ follows-requires c = let inside = place_inside c.loop-i.invariant (omega arith) 
 pub returns-then-not-follows : goal.returns-then-not-follows
 returns-then-not-follows c =
     elder_stops c.loop-i.invariant (omega arith) c.order_at-read.ensures _ c.in-At.is
-    (refuted _ _ c.follows.ensures c.if-not-follows.true)
+    (refuted _ _ c.follows.ensures (ap not c.if-not-follows.true))
 
 pub pass-requires : goal.pass-requires
 pass-requires c =
     let checked = c.loop-i.invariant in
     let few = c.requires.n_bound in
-    let elder = elder_inside checked (omega arith) few _ (upheld _ _ c.follows.ensures c.if-not-follows.false) in
+    let elder = elder_inside checked (omega arith) few _ (upheld _ _ c.follows.ensures (ap not c.if-not-follows.false)) in
     let place = place_inside checked (omega arith) few in
     record { e_bound = omega (arith, elder); i_bound = omega (arith, place) }
 
 pub loop-i-preserved : goal.loop-i-preserved
 loop-i-preserved c =
     one_checked c.loop-i.invariant (omega arith) c.order_at-read.ensures _ c.in-At.is c.requires.n_bound
-    (upheld _ _ c.follows.ensures c.if-not-follows.false) c.pass.ensures
+    (upheld _ _ c.follows.ensures (ap not c.if-not-follows.false)) c.pass.ensures
 
 pub returns : goal.returns
 returns c = all_checked c.loop-i.invariant (omega arith)

@@ -1,10 +1,12 @@
 -- `loading::mark` meets its contract.
+use mathlib.Core.Bool.{not}
+use mathlib.Core.Path.{ap}
 use borrow.Author.Tests.{not-true, not-false}
 use Rattle.loading.proofs.DayStored.{unmarked, marked_now}
 use Rattle.loading.proofs.mark.Goals as goal
 
 pub returns-then-not-over : goal.returns-then-not-over
-returns-then-not-over c = unmarked c.args.over _ (not-true _ c.if-not-over.true)
+returns-then-not-over c = unmarked c.args.over _ (not-true _ (ap not c.if-not-over.true))
 
 pub returns : goal.returns
-returns c = let a = c.args in marked_now a.over a.t.now _ (not-false _ c.if-not-over.false) c.put_over.ensures
+returns c = let a = c.args in marked_now a.over a.t.now _ (not-false _ (ap not c.if-not-over.false)) c.put_over.ensures

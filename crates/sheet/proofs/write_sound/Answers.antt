@@ -1,4 +1,6 @@
 -- `sheet::write_sound` meets its contract: with room for heading, rows and quote section they are written, one behind the other; else nothing is.
+use mathlib.Core.Bool.{not}
+use mathlib.Core.Path.{ap}
 use native.Mathlib.Omega.{arith}
 use borrow.Author.Tests.{not-true, not-false}
 use lib.ListN.{length, length-replicate}
@@ -55,7 +57,7 @@ pub returns-then-not-rows_fit : goal.returns-then-not-rows_fit
 returns-then-not-rows_fit c =
     let x = c.start-first in
     no_rows (measured (goal.at.returns-then-not-rows_fit c).After-length-below) (start (goal.at.returns-then-not-rows_fit c).After-length-below).args.out.now x.result x.ensures.result_value c.if-out-head.false c.rows_fit.result c.rows_fit.ensures
-    (not-true c.rows_fit.result c.if-not-rows_fit.true)
+    (not-true c.rows_fit.result (ap not c.if-not-rows_fit.true))
 
 -- there is room for all of it
 room : (c : Else-not-rows_fit)
@@ -63,7 +65,7 @@ room : (c : Else-not-rows_fit)
 room c =
     let x = c.start-first in
     all_fits (measured ⟪After-length-below⟫) (start ⟪After-length-below⟫).args.out.now x.result x.ensures.result_value c.if-out-head.false c.rows_fit.result c.rows_fit.ensures
-    (not-false c.rows_fit.result c.if-not-rows_fit.false)
+    (not-false c.rows_fit.result (ap not c.if-not-rows_fit.false))
 
 pub rows-rows-requires : goal.rows-rows-requires
 rows-rows-requires c =

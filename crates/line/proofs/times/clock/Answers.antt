@@ -1,6 +1,6 @@
 -- `line::times::clock` meets its contract.
 use Prim.Native.Nat.{ℕ}
-use mathlib.Core.Path.{◌≡◌, sym, ◌∙◌}
+use mathlib.Core.Path.{◌≡◌, sym, ◌∙◌, ap}
 use mathlib.Core.Bool.{Bool, true, false, not}
 use borrow.Author.Tests.{not-true, not-false}
 use Rattle.refusal.specs.Answer.{value, refused}
@@ -19,7 +19,7 @@ module _ (ms : ℕ) (b : Bool) (e : b ≡ lawful timestamp 8 (num ms)) where
   a_time t = rw (sym e ∙ not-false b t)
 
 pub returns-then-not-within : goal.returns-then-not-within
-returns-then-not-within c = record { said = no_time c.args.timestamp _ c.within.ensures c.if-not-within.true }
+returns-then-not-within c = record { said = no_time c.args.timestamp _ c.within.ensures (ap not c.if-not-within.true) }
 
 pub returns : goal.returns
-returns c = record { said = a_time c.args.timestamp _ c.within.ensures c.if-not-within.false }
+returns c = record { said = a_time c.args.timestamp _ c.within.ensures (ap not c.if-not-within.false) }

@@ -1,6 +1,6 @@
 -- `table::damage::is_sound` meets its contract.
-use mathlib.Core.Path.{sym, ap₂, ◌∙◌}
-use mathlib.Core.Bool.{◌&&◌}
+use mathlib.Core.Path.{sym, ap₂, ◌∙◌, ap}
+use mathlib.Core.Bool.{◌&&◌, not}
 use native.Mathlib.Omega.{arith}
 use lib.ListN.{length}
 use Rattle.table.proofs.Answers.{refuted, upheld, no_limit, too_many, bad_header, good_header}
@@ -20,7 +20,7 @@ pub sound_header-requires : goal.sound_header-requires
 sound_header-requires c = let s = c.args.t.now in omega (arith, slot_inside (length s) 0 (omega arith))
 
 pub returns-then-not-sound_header : goal.returns-then-not-sound_header
-returns-then-not-sound_header c = bad_header c.args.t.now (refuted _ _ c.sound_header.ensures c.if-not-sound_header.true)
+returns-then-not-sound_header c = bad_header c.args.t.now (refuted _ _ c.sound_header.ensures (ap not c.if-not-sound_header.true))
 
 pub sound_rows-requires : goal.sound_rows-requires
 sound_rows-requires c = omega (arith, c.limit-most.ensures, c.if-most-eq0.false)
@@ -28,4 +28,4 @@ sound_rows-requires c = omega (arith, c.limit-most.ensures, c.if-most-eq0.false)
 pub returns : goal.returns
 returns c =
     ap₂ ◌&&◌ c.sound_slots.ensures c.sound_rows.ensures
-    ∙ good_header c.args.t.now (omega arith) (omega arith) (upheld _ _ c.sound_header.ensures c.if-not-sound_header.false)
+    ∙ good_header c.args.t.now (omega arith) (omega arith) (upheld _ _ c.sound_header.ensures (ap not c.if-not-sound_header.false))

@@ -1,5 +1,6 @@
 -- `table::damage::sound_slots` meets its contract: the orders of the slots passed are undamaged and seen; a slot that does not fit damages all.
-use mathlib.Core.Path.{refl}
+use mathlib.Core.Bool.{not}
+use mathlib.Core.Path.{refl, ap}
 use native.Mathlib.Omega.{arith}
 use Rattle.table.proofs.Passes.{place_inside, elder_inside, none_passed, all_passed, one_passed, slot_stops, elder_stops}
 use Rattle.table.proofs.Answers.{refuted, upheld}
@@ -18,7 +19,7 @@ sound_slot-requires c = slot_inside _ c.loop-i.i (omega arith)
 pub returns-then-not-sound_slot : goal.returns-then-not-sound_slot
 returns-then-not-sound_slot c =
     slot_stops c.loop-i.invariant (omega arith) c.order_at-o.ensures
-    (refuted _ _ c.sound_slot.ensures c.if-not-sound_slot.true)
+    (refuted _ _ c.sound_slot.ensures (ap not c.if-not-sound_slot.true))
 
 pub follows-requires : goal.follows-requires
 follows-requires c =
@@ -28,19 +29,19 @@ follows-requires c =
 pub returns-then-not-follows : goal.returns-then-not-follows
 returns-then-not-follows c =
     elder_stops c.loop-i.invariant (omega arith) c.order_at-o.ensures
-    (refuted _ _ c.follows.ensures c.if-not-follows.true)
+    (refuted _ _ c.follows.ensures (ap not c.if-not-follows.true))
 
 pub pass-requires : goal.pass-requires
 pass-requires c =
     let passed = c.loop-i.invariant in
     let its = c.order_at-o.ensures in
-    record { e_bound = elder_inside passed (omega arith) its (omega arith) (upheld _ _ c.follows.ensures c.if-not-follows.false); i_bound = place_inside passed (omega arith) its (omega arith) }
+    record { e_bound = elder_inside passed (omega arith) its (omega arith) (upheld _ _ c.follows.ensures (ap not c.if-not-follows.false)); i_bound = place_inside passed (omega arith) its (omega arith) }
 
 pub loop-i-preserved : goal.loop-i-preserved
 loop-i-preserved c =
     one_passed c.loop-i.invariant (omega arith) c.order_at-o.ensures (omega arith)
-    (upheld _ _ c.sound_slot.ensures c.if-not-sound_slot.false)
-    (upheld _ _ c.follows.ensures c.if-not-follows.false)
+    (upheld _ _ c.sound_slot.ensures (ap not c.if-not-sound_slot.false))
+    (upheld _ _ c.follows.ensures (ap not c.if-not-follows.false))
     c.pass.ensures
 
 pub returns : goal.returns
