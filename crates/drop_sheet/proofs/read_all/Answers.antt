@@ -32,7 +32,7 @@ pub loop-turns-preserved : goal.loop-turns-preserved
 loop-turns-preserved c =
     let one = c.take-kept in
     let inv = c.loop-turns.invariant in
-    let read = goes_on (not-false one.result.good (ap not c.if-not-kept.false)) (more_read inv.0 one.ensures.takes) in
+    let read = goes_on c.if-not-kept.false (more_read inv.0 one.ensures.takes) in
     (read, one.ensures.beside_2, one.auto.1.0 ∙ inv.2, one.auto.1.1.0 ∙ inv.3, one.auto.1.1.1.0 ∙ inv.4, c.read-got.auto.1.0 ∙ inv.5, one.auto.1.1.1.1.1.1.1.0 ∙ inv.6)
 
 pub shape_of-input : goal.shape_of-input

@@ -45,4 +45,4 @@ returns c =
     let room = room_kept (c.read_all-kept.kept.0 ∙ c.begin.kept.0) c.read_all-kept.kept.1.1.1.1.1.0 c.pre.1.1.1 in
     λ _.
     all_printed c.args.t.now c.begin.ensures.t_after c.read_all-kept.ensures.reads
-    (not-false c.read_all-kept.result.good (ap not c.if-not-kept.false)) c.end.ensures room
+    c.if-not-kept.false c.end.ensures room

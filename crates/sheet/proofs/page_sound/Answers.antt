@@ -45,14 +45,14 @@ returns-then-not-rows_fit c =
     let a = c.args in
     let r = c.rows_fit in
     page_refused (page_of a.t.now a.passed a.most) a.out.now r.result (rw (here (goal.at.returns-then-not-rows_fit c).After-skip-first) at r.ensures)
-    (not-true r.result (ap not c.if-not-rows_fit.true))
+    c.if-not-rows_fit.true
 
 pub rows-requires : goal.rows-requires
 rows-requires c =
     let r = c.rows_fit in
     let x = c.skip-first in
     let room = page_room (text_left c.count-n.result c.args.t.now c.args.most x.result) c.args.out.now r.result r.ensures
-    (not-false r.result (ap not c.if-not-rows_fit.false)) in
+    c.if-not-rows_fit.false in
     record { kin = c.note_all.ensures; stands_or_ends = x.ensures.stands_or_ends; first_in_bounds = room }
 
 pub returns : goal.returns
@@ -61,4 +61,4 @@ returns c =
     let r = c.rows_fit in
     let same = here (goal.at.returns c).After-skip-first in
     page_written (page_of a.t.now a.passed a.most) a.out.now r.result (rw same at r.ensures)
-    (not-false r.result (ap not c.if-not-rows_fit.false)) (rw same at c.rows.ensures)
+    c.if-not-rows_fit.false (rw same at c.rows.ensures)

@@ -57,7 +57,7 @@ pub returns-then-not-rows_fit : goal.returns-then-not-rows_fit
 returns-then-not-rows_fit c =
     let x = c.start-first in
     no_rows (measured (goal.at.returns-then-not-rows_fit c).After-length-below) (start (goal.at.returns-then-not-rows_fit c).After-length-below).args.out.now x.result x.ensures.result_value c.if-out-head.false c.rows_fit.result c.rows_fit.ensures
-    (not-true c.rows_fit.result (ap not c.if-not-rows_fit.true))
+    c.if-not-rows_fit.true
 
 -- there is room for all of it
 room : (c : Else-not-rows_fit)
@@ -65,7 +65,7 @@ room : (c : Else-not-rows_fit)
 room c =
     let x = c.start-first in
     all_fits (measured ⟪After-length-below⟫) (start ⟪After-length-below⟫).args.out.now x.result x.ensures.result_value c.if-out-head.false c.rows_fit.result c.rows_fit.ensures
-    (not-false c.rows_fit.result (ap not c.if-not-rows_fit.false))
+    c.if-not-rows_fit.false
 
 pub rows-rows-requires : goal.rows-rows-requires
 rows-rows-requires c =

@@ -23,7 +23,7 @@ use Rattle.book.proofs.fills.plan_fill.Goals as goal
 use Rattle.book.proofs.fills.plan_fill.Goals.{After-find_row, After-row_at, Else-not-is_of_quote, In-At-2}
 
 named : (c : Else-not-is_of_quote) → let r = c.args.r in (is_fill r.event && names_quote r.token) ≡ true
-named c = sym c.is_of_quote.ensures ∙ not-false _ (ap not c.if-not-is_of_quote.false)
+named c = sym c.is_of_quote.ensures ∙ c.if-not-is_of_quote.false
 
 -- and once its row is looked up
 looked-up : (c : After-find_row) → let a = c.args in
@@ -43,7 +43,7 @@ here c =
 
 pub returns-then-not-is_of_quote : goal.returns-then-not-is_of_quote
 returns-then-not-is_of_quote c =
-    unknown_key c.args.t.now c.args.r c.requires.t_value_2 c.requires.t_value_3 c.requires.event_value c.requires.t_value_4 (sym c.is_of_quote.ensures ∙ not-true _ (ap not c.if-not-is_of_quote.true))
+    unknown_key c.args.t.now c.args.r c.requires.t_value_2 c.requires.t_value_3 c.requires.event_value c.requires.t_value_4 (sym c.is_of_quote.ensures ∙ c.if-not-is_of_quote.true)
 
 pub find_row-requires : goal.find_row-requires
 find_row-requires c =

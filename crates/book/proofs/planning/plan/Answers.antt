@@ -40,16 +40,16 @@ returns-then-is_taken c =
 pub plan_older-requires : goal.plan_older-requires
 unfolding begun
 plan_older-requires c =
-    record { t_value = c.requires.t_value; beside = c.requires.beside; own_value = c.requires.own_value; t_value_2 = not-over (goal.at.plan_older-requires c).After-is_taken; t_value_3 = sym (taken (goal.at.plan_older-requires c).After-is_taken) ∙ c.if-is_taken.false; event_value = sym c.is_new.ensures ∙ not-true _ (ap not c.if-not-is_new.true); lawful_record = c.requires.lawful_record }
+    record { t_value = c.requires.t_value; beside = c.requires.beside; own_value = c.requires.own_value; t_value_2 = not-over (goal.at.plan_older-requires c).After-is_taken; t_value_3 = sym (taken (goal.at.plan_older-requires c).After-is_taken) ∙ c.if-is_taken.false; event_value = sym c.is_new.ensures ∙ c.if-not-is_new.true; lawful_record = c.requires.lawful_record }
 
 pub returns-then-is_full : goal.returns-then-is_full
 unfolding begun
 returns-then-is_full c =
-    let made = sym c.is_new.ensures ∙ not-false _ (ap not c.if-not-is_new.false) in
+    let made = sym c.is_new.ensures ∙ c.if-not-is_new.false in
     full_of_new c.args.t.now c.args.r (not-over (goal.at.returns-then-is_full c).After-is_taken) (sym (taken (goal.at.returns-then-is_full c).After-is_taken) ∙ c.if-is_taken.false) made (sym c.is_full.ensures ∙ c.if-is_full.true)
 
 pub returns : goal.returns
 unfolding begun
 returns c =
-    let made = sym c.is_new.ensures ∙ not-false _ (ap not c.if-not-is_new.false) in
+    let made = sym c.is_new.ensures ∙ c.if-not-is_new.false in
     new c.args.t.now c.args.r (not-over (goal.at.returns c).After-is_taken) (sym (taken (goal.at.returns c).After-is_taken) ∙ c.if-is_taken.false) made (sym c.is_full.ensures ∙ c.if-is_full.false)

@@ -9,9 +9,9 @@ use Rattle.book.proofs.planning.subject.Goals as goal
 
 pub returns-then-not-is_replace : goal.returns-then-not-is_replace
 returns-then-not-is_replace c =
-    rw (sym c.is_replace.ensures ∙ not-true _ (ap not c.if-not-is_replace.true)) c.requires.own_value
+    rw (sym c.is_replace.ensures ∙ c.if-not-is_replace.true) c.requires.own_value
 
 pub returns : goal.returns
 returns c =
-    rw (sym c.is_replace.ensures ∙ not-false _ (ap not c.if-not-is_replace.false))
+    rw (sym c.is_replace.ensures ∙ c.if-not-is_replace.false)
     (c.find_key.ensures ∙ ap (λ (k : Key). place k (table_in c.args.t.now).orders) c.elder_key_of.ensures)

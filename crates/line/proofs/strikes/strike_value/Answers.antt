@@ -12,17 +12,17 @@ use Rattle.line.proofs.strikes.strike_value.Goals.{Else-not-lawful_strike, Else-
 
 pub returns-then-not-member : goal.returns-then-not-member
 unfolding strike_value
-returns-then-not-member c = record { said = rw (sym c.member.ensures ∙ not-true _ (ap not c.if-not-member.true)) }
+returns-then-not-member c = record { said = rw (sym c.member.ensures ∙ c.if-not-member.true) }
 
 coded : (c : Else-not-member) → member c.args.denominator denominators ≡ true
-coded c = sym c.member.ensures ∙ not-false _ (ap not c.if-not-member.false)
+coded c = sym c.member.ensures ∙ c.if-not-member.false
 
 pub returns-then-not-lawful_strike : goal.returns-then-not-lawful_strike
 unfolding strike_value
-returns-then-not-lawful_strike c = record { said = rw (coded (goal.at.returns-then-not-lawful_strike c).Else-not-member, sym c.lawful_strike.ensures ∙ not-true _ (ap not c.if-not-lawful_strike.true)) }
+returns-then-not-lawful_strike c = record { said = rw (coded (goal.at.returns-then-not-lawful_strike c).Else-not-member, sym c.lawful_strike.ensures ∙ c.if-not-lawful_strike.true) }
 
 lawful : (c : Else-not-lawful_strike) → let a = c.args in lawful_strike a.denominator a.digits ≡ true
-lawful c = sym c.lawful_strike.ensures ∙ not-false _ (ap not c.if-not-lawful_strike.false)
+lawful c = sym c.lawful_strike.ensures ∙ c.if-not-lawful_strike.false
 
 pub overflow_mul-value : goal.overflow_mul-value
 overflow_mul-value c =

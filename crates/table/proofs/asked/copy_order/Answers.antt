@@ -12,15 +12,15 @@ use Rattle.table.proofs.asked.copy_order.Goals as goal
 pub returns-then-not-is_sound : goal.returns-then-not-is_sound
 returns-then-not-is_sound c =
     let a = c.args in
-    uncopied _ _ a.t.now a.i a.out.now (sym c.is_sound.ensures ∙ not-true _ (ap not c.if-not-is_sound.true))
+    uncopied _ _ a.t.now a.i a.out.now (sym c.is_sound.ensures ∙ c.if-not-is_sound.true)
 
 pub count-requires : goal.count-requires
-count-requires c = header_there c.args.t.now (sym c.is_sound.ensures ∙ not-false _ (ap not c.if-not-is_sound.false))
+count-requires c = header_there c.args.t.now (sym c.is_sound.ensures ∙ c.if-not-is_sound.false)
 
 pub copy-requires : goal.copy-requires
 copy-requires c =
     let a = c.args in
-    let good = sym c.is_sound.ensures ∙ not-false _ (ap not c.if-not-is_sound.false) in
+    let good = sym c.is_sound.ensures ∙ c.if-not-is_sound.false in
     record { t_value = good; holds = subst (λ n. Holds slots a.t.now n) (sym c.count.ensures) (slots_held a.t.now good) }
 
 pub returns : goal.returns
