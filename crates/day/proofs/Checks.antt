@@ -197,7 +197,7 @@ module _ (limit : ℕ) (h : History) (l : Legal h) where
         let a = answer_by (refusal_of limit (day_of h) x) in
         skipped _ 1 _ a (unrefused 1 0)
         (skipped _ 2 _ a (unrefused 2 0)
-        (skipped _ 3 _ a (λ q. unrefused 3 q.0 q.1)
+        (skipped _ 3 _ a (λ (q : (f : ℕ) × (read p ≡ refused 3 f)). unrefused 3 q.0 q.1)
         (chain_judged (day_of h) x (checks limit) _ refl refl
         (day_over x and known_key x and unknown_key x and other_series x and not_open_lem x and not_executed_lem x and full x and row_full_lem x and tt))))
 
