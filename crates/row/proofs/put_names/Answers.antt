@@ -15,7 +15,7 @@ long c = let a = c.args in omega (arith, c.unpadded-n.ensures.0, names_length a.
 
 -- all of it has room, and numbers up to its end fit
 room : (c : After-unpadded-n) → let a = c.args in (a.at + 3 + length a.source.now + c.unpadded-n.result ≤ length a.out.now) × (length a.out.now < 2 ^ 63)
-room c = (omega (arith, long c, c.requires), omega (arith, c.type_inv.0))
+room c = (omega (arith, long c, c.requires), omega (arith, c.well_formed.0))
 
 -- the output stays as long as it was
 kept-1 : (c : After-store) → length c.store.new.out ≡ length (start ⟪After-unpadded-n⟫).args.out.now

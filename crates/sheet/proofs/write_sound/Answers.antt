@@ -31,7 +31,7 @@ measured c =
     }
 
 pub overflow_add-head : goal.overflow_add-head
-overflow_add-head c = omega (arith, small (measured c) c.args.out.now, c.type_inv)
+overflow_add-head c = omega (arith, small (measured c) c.args.out.now, c.well_formed)
 
 pub returns-then-out-head : goal.returns-then-out-head
 returns-then-out-head c = neither_fits (measured (goal.at.returns-then-out-head c).After-length-below) c.args.out.now c.if-out-head.true

@@ -11,7 +11,7 @@ use Rattle.row.proofs.quotes.put_line.Goals.{After-put_fills-end, After-store, A
 room : (c : After-put_fills-end) → let a = c.args in (c.put_fills-end.result + 2 + length a.source.now ≤ length a.out.now) × (length a.out.now < 2 ^ 63)
 room c =
     let a = c.args in let long = line_length a.id.now a.executed a.broken a.source.now in
-    (omega (arith, long, c.put_fills-end.ensures.end, c.requires), omega (arith, c.type_inv.0))
+    (omega (arith, long, c.put_fills-end.ensures.end, c.requires), omega (arith, c.well_formed.0))
 
 -- the output stays as long as it was
 kept-0 : (c : After-put_fills-end) → length c.put_fills-end.new.out ≡ length c.args.out.now
