@@ -5,7 +5,7 @@ use mathlib.Core.Path.{◌≡◌, refl, sym, ap, subst, ◌∙◌}
 use mathlib.Core.Logic.Iff
 use mathlib.Core.Logic.{◌⊎◌, inl, inr}
 use mathlib.Core.Bool.{Bool, true, false, cond, not, ◌&&◌, ◌||◌, false≢true}
-use mathlib.Core.List.{List}
+use mathlib.Core.List.{List, [], ◌∷◌}
 use borrow.Author.Tests.{not-true, ltb-true, lt-ltb, leb-true, le-leb, eqb-true, eq-eqb}
 use lib.Dec.{ltb, leb, eqb}
 use lib.ListN.{length, length-map}
@@ -23,7 +23,7 @@ use Rattle.day.specs.History.{executed_of, broken_of, open_of, lines_that_make, 
 use Rattle.day.specs.Quotes.{belongs, filled_of, has_row, quotes_of, quote_row_of}
 use Rattle.day.specs.Machine.{Found, nobody, found, find, differs, not_open, not_executed, Seen, none, seen, row_not_executed, row_full, checks, refusal_of}
 use Rattle.day.specs.Refusals.{subject, OfOrder, OfRow, OfNewRow, finds, DayOver, KnownKey, UnknownKey, OtherSeries, NotOpen, NotExecuted, Full, RowFull}
-use Rattle.day.specs.Refusals.{Reads, rules}
+use Rattle.day.specs.Refusals.{Reads, Rule, rule, rules}
 use Rattle.day.proofs.Chain.{Judged, skipped, Says, test_of, answer_by, chain_judged, first_number}
 use Rattle.day.proofs.Legal.{Legal}
 use Rattle.day.proofs.Lookup.{made_key, day_of, find_order, is_known}
@@ -192,13 +192,27 @@ module _ (limit : ℕ) (h : History) (l : Legal h) where
     ◌and◌ : {b : Bool} {P : Said → Type 0} {A : Type 0} → Says b (P x) → A → Says b (Reads p P) × A
     ◌and◌ {P = P} s others = ((λ t. (x, e, s.0 t), λ w. s.1 (subst P (cc w.1) w.2)), others)
 
+    -- the rules that speak of what the piece reads as
+    abbrev said_rules : List Rule
+    said_rules =
+        rule 6 (Reads p (DayOver h))
+        ∷ rule 7 (Reads p (KnownKey h))
+        ∷ rule 8 (Reads p (UnknownKey h))
+        ∷ rule 9 (Reads p (OtherSeries h))
+        ∷ rule 10 (Reads p (NotOpen h))
+        ∷ rule 11 (Reads p (NotExecuted h))
+        ∷ rule 12 (Reads p (Full limit h))
+        ∷ rule 13 (Reads p (RowFull h))
+        ∷ []
+
     pub said_judged : Judged (rules limit h p) (answer_by (refusal_of limit (day_of h) x))
     said_judged =
         let a = answer_by (refusal_of limit (day_of h) x) in
-        skipped _ 1 _ a (unrefused 1 0)
-        (skipped _ 2 _ a (unrefused 2 0)
-        (skipped _ 3 _ a (λ (q : (f : ℕ) × (read p ≡ refused 3 f)). unrefused 3 q.0 q.1)
-        (chain_judged (day_of h) x (checks limit) _ refl refl
+        let third = rule 3 ((f : ℕ) × (read p ≡ refused 3 f)) in
+        skipped (rule 2 (read p ≡ refused 2 0) ∷ third ∷ said_rules) 1 (read p ≡ refused 1 0) a (unrefused 1 0)
+        (skipped (third ∷ said_rules) 2 (read p ≡ refused 2 0) a (unrefused 2 0)
+        (skipped said_rules 3 third.applies a (λ (q : (f : ℕ) × (read p ≡ refused 3 f)). unrefused 3 q.0 q.1)
+        (chain_judged (day_of h) x (checks limit) said_rules refl refl
         (day_over x and known_key x and unknown_key x and other_series x and not_open_lem x and not_executed_lem x and full x and row_full_lem x and tt))))
 
     pub said_after : refusal_of limit (day_of h) x ≡ 3 → ⊥

@@ -55,11 +55,11 @@ judged limit ps p =
 
 accepted : (limit : ℕ) (ps : List (List ℕ)) (p : List ℕ)
     → (answer_to (book limit) ps p ≡ value tt) ↔ NoneOf (rules limit (history_after (book limit) ps) p)
-accepted limit ps p = judged_accepted _ _ (judged limit ps p)
+accepted limit ps p = judged_accepted (rules limit (history_after (book limit) ps) p) _ (judged limit ps p)
 
 refused_first : (limit : ℕ) (ps : List (List ℕ)) (p : List ℕ) (n : ℕ)
     → ((f : ℕ) × (answer_to (book limit) ps p ≡ refused n f)) ↔ FirstOf (rules limit (history_after (book limit) ps) p) n
-refused_first limit ps p n = judged_refused _ _ n (judged limit ps p)
+refused_first limit ps p n = judged_refused (rules limit (history_after (book limit) ps) p) _ n (judged limit ps p)
 
 refused_field : (limit : ℕ) (ps : List (List ℕ)) (p : List ℕ) (f : ℕ) → (answer_to (book limit) ps p ≡ refused 3 f) ↔ (read p ≡ refused 3 f)
 refused_field limit ps p f = (

@@ -26,7 +26,7 @@ shape_of-hold-then-not-kept c = c.take-kept.ensures.takes.long ∙ sym c.require
 
 pub returns-then-not-kept : goal.returns-then-not-kept
 returns-then-not-kept c = let one = c.take-kept.ensures in
-    record { reads = more_read c.loop-turns.invariant.0 one.0; beside_2 = one.1 }
+    record { reads = more_read c.loop-turns.invariant.0 one.takes; beside_2 = one.beside_2 }
 
 pub loop-turns-preserved : goal.loop-turns-preserved
 loop-turns-preserved c =

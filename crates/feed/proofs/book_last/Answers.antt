@@ -12,5 +12,5 @@ pub returns : goal.returns
 returns c =
     let a = c.args in
     let booked = c.book_held.ensures in
-    let both = last_says a.line a.t.now a.hold.now a.held (search rules) c.if-held-eq0.false (booked.0, booked.1.0) in
+    let both = last_says a.line a.t.now a.hold.now a.held (search rules) c.if-held-eq0.false (booked.wrote, booked.t_after) in
     record { wrote = both.0; t_after = both.1 }

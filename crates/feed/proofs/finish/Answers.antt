@@ -12,29 +12,29 @@ pub slice_bounds-sheet_of-count : goal.slice_bounds-sheet_of-count
 slice_bounds-sheet_of-count c =
     let a = c.args in
     let last = c.book_last-said.ensures in
-    search (rules, behind_last (held_in a.hold.now a.held) a.line a.t.now last.1 last.0 (search rules))
+    search (rules, behind_last (held_in a.hold.now a.held) a.line a.t.now last.t_after last.wrote (search rules))
 
 pub slice_bounds-sheet_of-start : goal.slice_bounds-sheet_of-start
 slice_bounds-sheet_of-start c =
     let a = c.args in
     let last = c.book_last-said.ensures in
-    search (rules, behind_last (held_in a.hold.now a.held) a.line a.t.now last.1 last.0 (search rules))
+    search (rules, behind_last (held_in a.hold.now a.held) a.line a.t.now last.t_after last.wrote (search rules))
 
 pub sheet_of-requires : goal.sheet_of-requires
 sheet_of-requires c =
     let a = c.args in
     let last = c.book_last-said.ensures in
     let held = held_in a.hold.now a.held in
-    record { t_value = table_sound held a.line a.t.now last.1 c.requires.t_value; t_in_bounds = (behind_last held a.line a.t.now last.1 last.0 (search rules)).1 }
+    record { t_value = table_sound held a.line a.t.now last.t_after c.requires.t_value; t_in_bounds = (behind_last held a.line a.t.now last.t_after last.wrote (search rules)).1 }
 
 pub overflow_add-result : goal.overflow_add-result
 overflow_add-result c =
     let a = c.args in
     let last = c.book_last-said.ensures in
-    search (rules, all_room (held_in a.hold.now a.held) a.line a.t.now last.1 last.0 c.sheet_of.ensures c.requires.t_value)
+    search (rules, all_room (held_in a.hold.now a.held) a.line a.t.now last.t_after last.wrote c.sheet_of.ensures c.requires.t_value)
 
 pub returns : goal.returns
 returns c =
     let a = c.args in
     let last = c.book_last-said.ensures in
-    record { wrote = all_written (held_in a.hold.now a.held) a.line a.t.now last.1 last.0 c.sheet_of.ensures; t_after = last.1 }
+    record { wrote = all_written (held_in a.hold.now a.held) a.line a.t.now last.t_after last.wrote c.sheet_of.ensures; t_after = last.t_after }

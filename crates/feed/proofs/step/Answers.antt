@@ -47,7 +47,7 @@ pub returns-then-chunk-end-ne-LF : goal.returns-then-chunk-end-ne-LF
 returns-then-chunk-end-ne-LF c =
     let inv = c.loop-used.invariant in
     let kept = c.keep-begun.ensures in
-    record { fits = keeps_begun inv.0 c.cut-cut.result.end c.loop-used-test.true c.cut-cut.ensures.ends c.if-chunk-end-ne-LF.true kept.0 kept.1.0 kept.1.1; t_after = inv.0.good; beside_2 = inv.1 }
+    record { fits = keeps_begun inv.0 c.cut-cut.result.end c.loop-used-test.true c.cut-cut.ensures.ends c.if-chunk-end-ne-LF.true kept.result_after kept.upper_bound.0 kept.upper_bound.1; t_after = inv.0.good; beside_2 = inv.1 }
 
 pub overflow_sub-out : goal.overflow_sub-out
 overflow_sub-out c = search (rules, same_long c.loop-used.invariant.0)
@@ -88,7 +88,7 @@ pub loop-used-preserved : goal.loop-used-preserved
 loop-used-preserved c =
     let said = c.book_part-said.ensures in
     let inv = c.loop-used.inv in
-    (next_turn inv.0 c.cut-cut.result.end c.loop-used-test.taken c.cut-cut.ensures.ends c.if-chunk-end-ne-LF.left c.if-out-wrote-lt-LONGEST.left (said.0, said.1.0) said.1.1.1 c.next_line-number.ensures, said.1.1.0, search rules, search rules)
+    (next_turn inv.0 c.cut-cut.result.end c.loop-used-test.taken c.cut-cut.ensures.ends c.if-chunk-end-ne-LF.left c.if-out-wrote-lt-LONGEST.left (said.wrote, said.t_after) said.hold_len_2 c.next_line-number.ensures, said.beside_2, search rules, search rules)
 
 pub shape_of-t : goal.shape_of-t
 shape_of-t c = c.loop-used.invariant.0.table

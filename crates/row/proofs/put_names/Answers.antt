@@ -14,9 +14,8 @@ long : (c : After-unpadded-n) → let a = c.args in length (names_text a.source.
 long c = let a = c.args in omega (arith, c.unpadded-n.ensures.0, names_length a.source.now a.token.now)
 
 -- all of it has room, and numbers up to its end fit
-room : (c : After-unpadded-n) → let a = c.args in
-    (a.at + 3 + length a.source.now + c.unpadded-n.result ≤ length a.out.now) × (length a.out.now < 2 ^ 63)
-room c = (omega (arith, long c, c.requires), omega (arith, c.type_inv.0))
+room : (c : After-unpadded-n) → let a = c.args in (a.at + 3 + length a.source.now + c.unpadded-n.result ≤ length a.out.now) × (length a.out.now < 2 ^ 63)
+room c = (omega (arith, long c, c.requires), omega (arith, c.well_formed.0))
 
 -- the output stays as long as it was
 kept-1 : (c : After-store) → length c.store.new.out ≡ length (start ⟪After-unpadded-n⟫).args.out.now
@@ -69,6 +68,5 @@ shape_of-out c = c.store-5.auto.0 ∙ kept-4 (goal.at.shape_of-out c).After-stor
 
 pub returns : goal.returns
 returns c =
-    let n = c.unpadded-n in
-    let a = (start (goal.at.returns c).After-unpadded-n).args in
+    let n = c.unpadded-n in let a = (start (goal.at.returns c).After-unpadded-n).args in
     names_put a.source.now a.token.now a.out.now _ _ _ _ _ a.at n.result n.ensures.0 n.ensures.1 c.store.ensures c.store-2.ensures c.store-3.ensures c.store-4.ensures c.store-5.ensures

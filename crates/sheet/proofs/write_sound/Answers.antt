@@ -31,7 +31,7 @@ measured c =
     }
 
 pub overflow_add-head : goal.overflow_add-head
-overflow_add-head c = omega (arith, small (measured c) c.args.out.now, c.type_inv)
+overflow_add-head c = omega (arith, small (measured c) c.args.out.now, c.well_formed)
 
 pub returns-then-out-head : goal.returns-then-out-head
 returns-then-out-head c = neither_fits (measured (goal.at.returns-then-out-head c).After-length-below) c.args.out.now c.if-out-head.true
@@ -39,8 +39,7 @@ returns-then-out-head c = neither_fits (measured (goal.at.returns-then-out-head 
 pub note_all-requires : goal.note_all-requires
 note_all-requires c =
     let m = measured (goal.at.note_all-requires c).After-length-below in
-    let s = c.args.t.now in
-    let n = c.count-n.result in
+    let s = c.args.t.now in let n = c.count-n.result in
     let few = (sound_apart s m.good).bytes.few in
     let most = limit_most (length s) in
     let slots = slots_inside s n m.good m.count in

@@ -35,7 +35,7 @@ pub returns-then-not-say : goal.returns-then-not-say
 returns-then-not-say c =
     let a = (to_start (goal.at.returns-then-not-say c).In-loop-used).args in
     let step = c.step-fed.ensures in
-    record { takes = stopped (between (held_in a.hold.now a.held) a.line a.t.now) a.chunk.now step.0.few step.0.long step.1.0; beside_2 = step.1.1 }
+    record { takes = stopped (between (held_in a.hold.now a.held) a.line a.t.now) a.chunk.now step.fits.few step.fits.long step.t_after; beside_2 = step.beside_2 }
 
 pub overflow_add-used : goal.overflow_add-used
 overflow_add-used c =

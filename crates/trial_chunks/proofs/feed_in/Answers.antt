@@ -9,7 +9,7 @@ use Rattle.trial_chunks.proofs.feed_in.Goals as goal
 pub feed_chunks-kept-requires : goal.feed_chunks-kept-requires
 feed_chunks-kept-requires c =
     let begun = c.begin.ensures in
-    record { in_bounds = search rules; t_value = begun_sound c.args.t.now begun.0 c.requires.nonzero; beside = begun.1; hold_len = search rules; longest_in_bounds = search rules }
+    record { in_bounds = search rules; t_value = begun_sound c.args.t.now begun.t_after c.requires.nonzero; beside = begun.beside; hold_len = search rules; longest_in_bounds = search rules }
 
 pub end-requires : goal.end-requires
 end-requires c =

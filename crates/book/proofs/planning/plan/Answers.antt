@@ -22,8 +22,7 @@ not-over c = sym c.is_over.ensures ∙ c.if-is_over.false
 taken : (c : After-is_taken) → c.is_taken.result ≡ (is_maker c.args.r.event && is_found (find (key_of c.args.r) (table_in c.args.t.now).orders))
 unfolding begun
 taken c =
-    let a = c.args in
-    c.is_taken.ensures ∙ taken_is (is_maker a.r.event) (key_of a.r) (table_in a.t.now).orders (order_in a.t.now) (place_no a.own) c.requires.own_value
+    let a = c.args in c.is_taken.ensures ∙ taken_is (is_maker a.r.event) (key_of a.r) (table_in a.t.now).orders (order_in a.t.now) (place_no a.own) c.requires.own_value
 
 pub is_over-requires : goal.is_over-requires
 is_over-requires c = header_there c.args.t.now (search rules)

@@ -10,4 +10,4 @@ carry_out-requires c =
 pub returns : goal.returns
 returns c =
     let done = c.carry_out.ensures in
-    record { books_said = planned c.plan-plan.ensures done.0; beside_2 = done.1 }
+    record { books_said = planned c.plan-plan.ensures done.carried; beside_2 = done.beside_2 }

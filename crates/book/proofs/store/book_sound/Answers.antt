@@ -27,7 +27,7 @@ returns-in-Line c =
     let piece = c.args.piece.now in
     let said = outcome_is piece _ _ _ c.in-Line.is c.read_in-reading.ensures.said in
     let done = c.book_line.ensures in
-    record { books = read_as c.args.t.now piece (search rules) (line c.read_in-reading.result.line) _ _ said done.0; beside_2 = done.1 }
+    record { books = read_as c.args.t.now piece (search rules) (line c.read_in-reading.result.line) _ _ said done.books_said; beside_2 = done.beside_2 }
 
 pub returns-in-Refused : goal.returns-in-Refused
 returns-in-Refused c =

@@ -50,7 +50,7 @@ pub returns-in-New : goal.returns-in-New
 returns-in-New c =
     let t = c.args.t.now in
     let done = c.append.ensures in
-    record { carried = carried t c.args.r _ _ Booked _ c.in-New.is refl (done.0 ∙ ap (λ o. appended o t) c.new_order.ensures); beside_2 = done.1 }
+    record { carried = carried t c.args.r _ _ Booked _ c.in-New.is refl (done.t_after ∙ ap (λ o. appended o t) c.new_order.ensures); beside_2 = done.beside_2 }
 
 pub returns-in-Change : goal.returns-in-Change
 returns-in-Change c =
@@ -68,8 +68,8 @@ pub returns-in-Replace : goal.returns-in-Replace
 returns-in-Replace c =
     let t = c.args.t.now in
     let done = c.append-in-Replace.ensures in
-    let out = one_replaced t _ _ c.in-Replace.i c.in-Replace.f c.args.r _ c.refigure-in-Replace.ensures c.new_order-in-Replace.ensures done.0 in
-    record { carried = carried t c.args.r _ _ Booked _ c.in-Replace.is refl out; beside_2 = done.1 }
+    let out = one_replaced t _ _ c.in-Replace.i c.in-Replace.f c.args.r _ c.refigure-in-Replace.ensures c.new_order-in-Replace.ensures done.t_after in
+    record { carried = carried t c.args.r _ _ Booked _ c.in-Replace.is refl out; beside_2 = done.beside_2 }
 
 pub returns-in-NewRow : goal.returns-in-NewRow
 returns-in-NewRow c =

@@ -13,5 +13,5 @@ pub returns : goal.returns
 returns c =
     let a = c.args in
     let booked = c.book_piece.ensures in
-    let s = held_says a.line a.t.now a.hold.now a.held (booked.0, booked.1.0) in
-    record { wrote = s.0; t_after = s.1; beside_2 = booked.1.1 }
+    let s = held_says a.line a.t.now a.hold.now a.held (booked.wrote, booked.t_after) in
+    record { wrote = s.0; t_after = s.1; beside_2 = booked.beside_2 }

@@ -12,8 +12,8 @@ pub returns-then-held-eq0 : goal.returns-then-held-eq0
 returns-then-held-eq0 c =
     let a = c.args in
     let booked = c.book_piece.ensures in
-    let s = part_says a.line a.t.now a.hold.now a.part.now a.held c.if-held-eq0.true (booked.0, booked.1.0) in
-    record { wrote = s.0; t_after = s.1; beside_2 = booked.1.1; hold_len_2 = search rules }
+    let s = part_says a.line a.t.now a.hold.now a.part.now a.held c.if-held-eq0.true (booked.wrote, booked.t_after) in
+    record { wrote = s.0; t_after = s.1; beside_2 = booked.beside_2; hold_len_2 = search rules }
 
 pub book_held-requires : goal.book_held-requires
 book_held-requires c =
@@ -25,5 +25,5 @@ pub returns : goal.returns
 returns c =
     let a = c.args in
     let booked = c.book_held.ensures in
-    let s = verbatim_says a.line a.t.now _ _ c.keep-n.ensures.result_after (booked.0, booked.1.0) in
-    record { wrote = s.0; t_after = s.1; beside_2 = booked.1.1; hold_len_2 = search rules }
+    let s = verbatim_says a.line a.t.now _ _ c.keep-n.ensures.result_after (booked.wrote, booked.t_after) in
+    record { wrote = s.0; t_after = s.1; beside_2 = booked.beside_2; hold_len_2 = search rules }

@@ -3,6 +3,7 @@ use Rattle.std.proofs.Common.{◌-◌, ◌<◌, true, false, length, ⊎_elim, a
 use Rattle.index.proofs.Tagging.{bucket_under}
 use Rattle.index.proofs.Chains.{walk_first, walk_next, walk_falls, walk_end}
 use Rattle.index.proofs.chain.walk.Goals as goal
+use Rattle.index.proofs.chain.walk.Goals.{then-same, else-same}
 
 pub offset_bounds-heads-b : goal.offset_bounds-heads-b
 offset_bounds-heads-b c =
@@ -66,7 +67,7 @@ loop-at-preserved c =
     let x = c.requires in
     let l = c.loop-at in
     let next = walk_next a.keys a.t.now a.n a.heads.now a.nexts.now a.key.now x.indexed a.b x.b_value l.invariant (omega arith) c.same.ensures in
-    ⊎_elim (λ w. rw w.1 (next true w.0.taken)) (λ w. rw w.1 (next false w.0.left)) c.if-same.branch
+    elim c.if-same.branch [ then-same w ↦ rw w.best-is (next true w.if-same.true) | else-same w ↦ rw w.best-is (next false w.if-same.false) ]
 
 pub returns : goal.returns
 returns c =

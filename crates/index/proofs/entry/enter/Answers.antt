@@ -25,16 +25,14 @@ slice_bounds-bucket-end c = search (rules, there (goal.at.slice_bounds-bucket-en
 -- the bucket is that of record n
 own : (c : After-bucket-b) → c.bucket-b.result ≡ bucket_in c.args.keys c.args.t.now (length c.args.heads.now) c.args.n
 own c =
-    let a = c.args in
-    c.bucket-b.ensures ∙ ap (bucket_of (length a.heads.now)) (record_lent a.keys a.t.now a.n c.start-at.result c.start-at.ensures)
+    let a = c.args in c.bucket-b.ensures ∙ ap (bucket_of (length a.heads.now)) (record_lent a.keys a.t.now a.n c.start-at.result c.start-at.ensures)
 
 pub link-requires : goal.link-requires
 link-requires c =
     let x = c.requires in
-    record { b_in_bounds = bucket_under _ _ _ x.0.some (own (goal.at.link-requires c).After-bucket-b); n_in_bounds = x.1.room; n_bound = x.1.small }
+    record { b_in_bounds = bucket_under _ _ _ x.indexed.some (own (goal.at.link-requires c).After-bucket-b); n_in_bounds = x.enters.room; n_bound = x.enters.small }
 
 pub returns : goal.returns
 returns c =
-    let x = c.requires in
-    let linked = c.link.ensures in
-    entered x.0 x.1 (own (goal.at.returns c).After-bucket-b) linked.0 linked.1
+    let x = c.requires in let linked = c.link.ensures in
+    entered x.indexed x.enters (own (goal.at.returns c).After-bucket-b) linked.heads_after linked.nexts_after

@@ -8,7 +8,7 @@ use Rattle.quote_slot.proofs.write.put_quote.Goals as goal
 pub returns : goal.returns
 returns c =
     let a = c.args in
-    let good = c.type_inv.1.1.0 in
+    let good = c.well_formed.1.1.0 in
     let source : length a.q.key.source ≡ 6 = search (rules, good) in
     let token : length a.q.key.token ≡ 20 = search (rules, good) in
     let root : length a.q.series.root ≡ 6 = search (rules, good) in

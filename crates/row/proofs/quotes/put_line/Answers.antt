@@ -8,12 +8,10 @@ use Rattle.row.proofs.quotes.put_line.Goals as goal
 use Rattle.row.proofs.quotes.put_line.Goals.{After-put_fills-end, After-store, After-store-2}
 
 -- all of it has room, and numbers up to its end fit
-room : (c : After-put_fills-end) → let a = c.args in
-    (c.put_fills-end.result + 2 + length a.source.now ≤ length a.out.now) × (length a.out.now < 2 ^ 63)
+room : (c : After-put_fills-end) → let a = c.args in (c.put_fills-end.result + 2 + length a.source.now ≤ length a.out.now) × (length a.out.now < 2 ^ 63)
 room c =
-    let a = c.args in
-    let long = line_length a.id.now a.executed a.broken a.source.now in
-    (omega (arith, long, c.put_fills-end.ensures.end, c.requires), omega (arith, c.type_inv.0))
+    let a = c.args in let long = line_length a.id.now a.executed a.broken a.source.now in
+    (omega (arith, long, c.put_fills-end.ensures.end, c.requires), omega (arith, c.well_formed.0))
 
 -- the output stays as long as it was
 kept-0 : (c : After-put_fills-end) → length c.put_fills-end.new.out ≡ length c.args.out.now
@@ -59,6 +57,5 @@ shape_of-out c = c.store-3.auto.0 ∙ kept-2 (goal.at.shape_of-out c).After-stor
 
 pub returns : goal.returns
 returns c =
-    let fills = c.put_fills-end in
-    let a = (start (goal.at.returns c).After-put_fills-end).args in
+    let fills = c.put_fills-end in let a = (start (goal.at.returns c).After-put_fills-end).args in
     line_put a.id.now a.source.now a.out.now _ _ _ _ a.executed a.broken fills.result fills.ensures c.store.ensures c.store-2.ensures c.store-3.ensures

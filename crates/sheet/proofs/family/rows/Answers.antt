@@ -30,7 +30,7 @@ pub overflow_add-wrote : goal.overflow_add-wrote
 overflow_add-wrote c =
     let s = c.few-some in
     let g = going_on c.loop-left.invariant c.requires.first_in_bounds s.result s.ensures.upper_bound c.if-n-x.false c.member_step-done.ensures in
-    omega (arith, going_inside g c.requires.first_in_bounds, keeps_length g.written, c.type_inv.1.1.1.1.1.0.0)
+    omega (arith, going_inside g c.requires.first_in_bounds, keeps_length g.written, c.well_formed.1.1.1.1.1.0.0)
 
 pub overflow_sub-left : goal.overflow_sub-left
 overflow_sub-left c = c.few-some.ensures.upper_bound

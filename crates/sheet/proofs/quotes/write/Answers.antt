@@ -26,7 +26,7 @@ write-wrote-requires c =
 pub overflow_add-wrote : goal.overflow_add-wrote
 overflow_add-wrote c =
     let x = written_next c.loop-i.invariant c.loop-i-test.true c.write-wrote.ensures in
-    omega (arith, written_inside x c.requires.t_in_bounds, keeps_length x.so, c.type_inv)
+    omega (arith, written_inside x c.requires.t_in_bounds, keeps_length x.so, c.well_formed)
 
 pub loop-i-preserved : goal.loop-i-preserved
 loop-i-preserved c = written_next c.loop-i.invariant c.loop-i-test.true c.write-wrote.ensures

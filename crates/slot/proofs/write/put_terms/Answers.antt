@@ -8,7 +8,7 @@ use Rattle.slot.proofs.write.put_terms.Goals as goal
 pub returns : goal.returns
 returns c =
     let a = c.args in
-    let good = c.type_inv.1.1.0 in
+    let good = c.well_formed.1.1.0 in
     let source : length a.o.key.source ≡ 6 = search (rules, good) in
     let token : length a.o.key.token ≡ 20 = search (rules, good) in
     let root : length a.o.series.root ≡ 6 = search (rules, good) in
