@@ -1,7 +1,5 @@
 -- `line::fields::read_in` meets its contract.
-use mathlib.Core.Bool.{not}
-use mathlib.Core.Path.{sym, ◌∙◌, ap}
-use borrow.Author.Tests.{not-true, not-false}
+use mathlib.Core.Path.{sym, ◌∙◌}
 use borrow.Author.Rules.{rules}
 use Rattle.line.proofs.Readings.{end_of_day, other_length, other_end, odd_byte, by_fields}
 use Rattle.line.proofs.fields.read_in.Goals as goal

@@ -1,8 +1,7 @@
 -- `line::strikes::strike_value` meets its contract.
-use mathlib.Core.Path.{◌≡◌, sym, ◌∙◌, ap}
-use mathlib.Core.Bool.{true, not}
+use mathlib.Core.Path.{◌≡◌, sym, ◌∙◌}
+use mathlib.Core.Bool.{true}
 use native.Mathlib.Omega.{arith}
-use borrow.Author.Tests.{not-true, not-false}
 use Rattle.run.specs.Runs.{member}
 use Rattle.layout.specs.Layout.{denominators}
 use Rattle.layout.specs.Strikes.{lawful_strike, strike_value}
