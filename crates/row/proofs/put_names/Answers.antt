@@ -8,7 +8,7 @@ use Rattle.row.specs.Texts.{names_text}
 use Rattle.row.proofs.Puts.{names_put, names_length}
 use Rattle.row.proofs.Trimming.{trimmed_most}
 use Rattle.row.proofs.put_names.Goals as goal
-use Rattle.row.proofs.put_names.Goals.{After-store, After-store-2, After-store-3, After-store-4, After-unpadded-n}
+use Rattle.row.proofs.put_names.Goals.{After-unpadded-n}
 
 long : (c : After-unpadded-n) → let a = c.args in length (names_text a.source.now a.token.now) ≡ 3 + length a.source.now + c.unpadded-n.result
 long c = let a = c.args in omega (arith, c.unpadded-n.ensures.0, names_length a.source.now a.token.now)
@@ -17,27 +17,14 @@ long c = let a = c.args in omega (arith, c.unpadded-n.ensures.0, names_length a.
 room : (c : After-unpadded-n) → let a = c.args in (a.at + 3 + length a.source.now + c.unpadded-n.result ≤ length a.out.now) × (length a.out.now < 2 ^ 63)
 room c = (omega (arith, long c, c.requires), omega (arith, c.well_formed.0))
 
--- the output stays as long as it was
-kept-1 : (c : After-store) → length c.store.new.out ≡ length (start ⟪After-unpadded-n⟫).args.out.now
-kept-1 c = c.store.auto.0
-
-kept-2 : (c : After-store-2) → length c.store-2.new.out ≡ length (start ⟪After-unpadded-n⟫).args.out.now
-kept-2 c = c.store-2.auto.0 ∙ kept-1 ⟪After-store⟫
-
-kept-3 : (c : After-store-3) → length c.store-3.new.out ≡ length (start ⟪After-unpadded-n⟫).args.out.now
-kept-3 c = c.store-3.auto.0 ∙ kept-2 ⟪After-store-2⟫
-
-kept-4 : (c : After-store-4) → length c.store-4.new.out ≡ length (start ⟪After-unpadded-n⟫).args.out.now
-kept-4 c = c.store-4.auto.0 ∙ kept-3 ⟪After-store-3⟫
-
 pub store-requires-2 : goal.store-requires-2
-store-requires-2 c = omega (arith, room (goal.at.store-requires-2 c).After-unpadded-n, kept-1 (goal.at.store-requires-2 c).After-store)
+store-requires-2 c = omega (arith, room (goal.at.store-requires-2 c).After-unpadded-n)
 
 pub overflow_add-mid-2 : goal.overflow_add-mid-2
 overflow_add-mid-2 c = omega (arith, room (goal.at.overflow_add-mid-2 c).After-unpadded-n)
 
 pub store-requires-3 : goal.store-requires-3
-store-requires-3 c = omega (arith, room (goal.at.store-requires-3 c).After-unpadded-n, kept-2 (goal.at.store-requires-3 c).After-store-2)
+store-requires-3 c = omega (arith, room (goal.at.store-requires-3 c).After-unpadded-n)
 
 pub overflow_add-mid-3 : goal.overflow_add-mid-3
 overflow_add-mid-3 c = omega (arith, room (goal.at.overflow_add-mid-3 c).After-unpadded-n)
@@ -46,7 +33,7 @@ pub slice_bounds-store-end-3 : goal.slice_bounds-store-end-3
 slice_bounds-store-end-3 c = search (rules, c.unpadded-n.ensures.0, trimmed_most c.args.token.now)
 
 pub store-requires-4 : goal.store-requires-4
-store-requires-4 c = omega (arith, room (goal.at.store-requires-4 c).After-unpadded-n, kept-3 (goal.at.store-requires-4 c).After-store-3, length-take (c.unpadded-n.result - 0) c.args.token.now)
+store-requires-4 c = omega (arith, room (goal.at.store-requires-4 c).After-unpadded-n, length-take (c.unpadded-n.result - 0) c.args.token.now)
 
 pub overflow_add-mid-4 : goal.overflow_add-mid-4
 overflow_add-mid-4 c = omega (arith, room (goal.at.overflow_add-mid-4 c).After-unpadded-n)
@@ -55,7 +42,7 @@ pub overflow_add-mid-5 : goal.overflow_add-mid-5
 overflow_add-mid-5 c = omega (arith, room (goal.at.overflow_add-mid-5 c).After-unpadded-n)
 
 pub store-requires-5 : goal.store-requires-5
-store-requires-5 c = omega (arith, room (goal.at.store-requires-5 c).After-unpadded-n, kept-4 (goal.at.store-requires-5 c).After-store-4)
+store-requires-5 c = omega (arith, room (goal.at.store-requires-5 c).After-unpadded-n)
 
 pub overflow_add-result : goal.overflow_add-result
 overflow_add-result c = omega (arith, room (goal.at.overflow_add-result c).After-unpadded-n)
@@ -63,10 +50,7 @@ overflow_add-result c = omega (arith, room (goal.at.overflow_add-result c).After
 pub overflow_add-result-2 : goal.overflow_add-result-2
 overflow_add-result-2 c = omega (arith, room (goal.at.overflow_add-result-2 c).After-unpadded-n)
 
-pub shape_of-out : goal.shape_of-out
-shape_of-out c = c.store-5.auto.0 ∙ kept-4 (goal.at.shape_of-out c).After-store-4
-
 pub returns : goal.returns
 returns c =
-    let n = c.unpadded-n in let a = (start (goal.at.returns c).After-unpadded-n).args in
+    let n = c.unpadded-n in let a = c.args in
     names_put a.source.now a.token.now a.out.now _ _ _ _ _ a.at n.result n.ensures.0 n.ensures.1 c.store.ensures c.store-2.ensures c.store-3.ensures c.store-4.ensures c.store-5.ensures

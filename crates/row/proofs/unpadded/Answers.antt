@@ -14,13 +14,13 @@ pub loop-n-preserved : goal.loop-n-preserved
 loop-n-preserved c =
     let l = c.loop-n in
     let s = c.args.s.now in
-    (search rules, padding_next s l.n (search rules) (search rules) (eqb-true _ _ c.if-s-n-eq32.true) l.invariant.1)
+    (search rules, padding_next s l.n (search rules) (search rules) c.if-s-n-eq32.true l.invariant.1)
 
 pub returns-else-s-n-eq32 : goal.returns-else-s-n-eq32
 returns-else-s-n-eq32 c =
     let l = c.loop-n in
     let s = c.args.s.now in
-    padding_end s l.n (search rules) (search rules) (eqb-false _ _ c.if-s-n-eq32.false) l.invariant.1
+    padding_end s l.n (search rules) (search rules) c.if-s-n-eq32.false l.invariant.1
 
 pub returns-after-loop-n : goal.returns-after-loop-n
 returns-after-loop-n c =

@@ -17,7 +17,7 @@ put_figures-figures_end-requires c =
     let a = c.args in
     let figures = c.figures_in in
     let rank = c.put_rank-rank_end in
-    figures_room a.t.now a.i a.family a.rank figures.result figures.ensures rank.result _ rank.ensures.end (omega (arith, c.requires.i_in_bounds, rank.auto.0))
+    figures_room a.t.now a.i a.family a.rank figures.result figures.ensures rank.result _ rank.ensures.end (omega (arith, c.requires.i_in_bounds))
 
 pub put_names-requires : goal.put_names-requires
 put_names-requires c =
@@ -25,10 +25,7 @@ put_names-requires c =
     let figures = c.figures_in in
     let rank = c.put_rank-rank_end in
     let put = c.put_figures-figures_end in
-    names_room a.t.now a.i a.family a.rank figures.result figures.ensures rank.result put.result _ rank.ensures.end put.ensures.end (omega (arith, c.requires.i_in_bounds, rank.auto.0, put.auto.0))
-
-pub shape_of-out : goal.shape_of-out
-shape_of-out c = c.put_names.auto.0 ∙ c.put_figures-figures_end.auto.0 ∙ c.put_rank-rank_end.auto.0
+    names_room a.t.now a.i a.family a.rank figures.result figures.ensures rank.result put.result _ rank.ensures.end put.ensures.end (omega (arith, c.requires.i_in_bounds))
 
 pub returns : goal.returns
 returns c =

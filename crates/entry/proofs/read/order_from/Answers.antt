@@ -3,4 +3,4 @@ use Rattle.entry.proofs.Entries.{order_made}
 use Rattle.entry.proofs.read.order_from.Goals as goal
 
 pub returns : goal.returns
-returns c = order_made _ c.args.values.now _ c.type_size.ensures
+returns c = order_made _ c.args.values.now _ c.size_of.ensures

@@ -5,7 +5,7 @@ use native.Mathlib.Omega.{arith}
 use lib.ListN.{length}
 use Rattle.row.proofs.Puts.{line_put, line_length}
 use Rattle.row.proofs.quotes.put_line.Goals as goal
-use Rattle.row.proofs.quotes.put_line.Goals.{After-put_fills-end, After-store, After-store-2}
+use Rattle.row.proofs.quotes.put_line.Goals.{After-put_fills-end}
 
 -- all of it has room, and numbers up to its end fit
 room : (c : After-put_fills-end) → let a = c.args in (c.put_fills-end.result + 2 + length a.source.now ≤ length a.out.now) × (length a.out.now < 2 ^ 63)
@@ -13,29 +13,19 @@ room c =
     let a = c.args in let long = line_length a.id.now a.executed a.broken a.source.now in
     (omega (arith, long, c.put_fills-end.ensures.end, c.requires), omega (arith, c.well_formed.0))
 
--- the output stays as long as it was
-kept-0 : (c : After-put_fills-end) → length c.put_fills-end.new.out ≡ length c.args.out.now
-kept-0 c = c.put_fills-end.auto.0
-
-kept-1 : (c : After-store) → length c.store.new.out ≡ length (start ⟪After-put_fills-end⟫).args.out.now
-kept-1 c = c.store.auto.0 ∙ kept-0 ⟪After-put_fills-end⟫
-
-kept-2 : (c : After-store-2) → length c.store-2.new.out ≡ length (start ⟪After-put_fills-end⟫).args.out.now
-kept-2 c = c.store-2.auto.0 ∙ kept-1 ⟪After-store⟫
-
 pub put_fills-end-requires : goal.put_fills-end-requires
 put_fills-end-requires c =
     let a = c.args in
     omega (arith, line_length a.id.now a.executed a.broken a.source.now, c.requires)
 
 pub store-requires : goal.store-requires
-store-requires c = omega (arith, room (goal.at.store-requires c).After-put_fills-end, kept-0 (goal.at.store-requires c).After-put_fills-end)
+store-requires c = omega (arith, room (goal.at.store-requires c).After-put_fills-end)
 
 pub overflow_add-end : goal.overflow_add-end
 overflow_add-end c = omega (arith, room (goal.at.overflow_add-end c).After-put_fills-end)
 
 pub store-requires-2 : goal.store-requires-2
-store-requires-2 c = omega (arith, room (goal.at.store-requires-2 c).After-put_fills-end, kept-1 (goal.at.store-requires-2 c).After-store)
+store-requires-2 c = omega (arith, room (goal.at.store-requires-2 c).After-put_fills-end)
 
 pub overflow_add-end-2 : goal.overflow_add-end-2
 overflow_add-end-2 c = omega (arith, room (goal.at.overflow_add-end-2 c).After-put_fills-end)
@@ -44,7 +34,7 @@ pub overflow_add-end-3 : goal.overflow_add-end-3
 overflow_add-end-3 c = omega (arith, room (goal.at.overflow_add-end-3 c).After-put_fills-end)
 
 pub store-requires-3 : goal.store-requires-3
-store-requires-3 c = omega (arith, room (goal.at.store-requires-3 c).After-put_fills-end, kept-2 (goal.at.store-requires-3 c).After-store-2)
+store-requires-3 c = omega (arith, room (goal.at.store-requires-3 c).After-put_fills-end)
 
 pub overflow_add-result : goal.overflow_add-result
 overflow_add-result c = omega (arith, room (goal.at.overflow_add-result c).After-put_fills-end)
@@ -52,10 +42,7 @@ overflow_add-result c = omega (arith, room (goal.at.overflow_add-result c).After
 pub overflow_add-result-2 : goal.overflow_add-result-2
 overflow_add-result-2 c = omega (arith, room (goal.at.overflow_add-result-2 c).After-put_fills-end)
 
-pub shape_of-out : goal.shape_of-out
-shape_of-out c = c.store-3.auto.0 ∙ kept-2 (goal.at.shape_of-out c).After-store-2
-
 pub returns : goal.returns
 returns c =
-    let fills = c.put_fills-end in let a = (start (goal.at.returns c).After-put_fills-end).args in
+    let fills = c.put_fills-end in let a = c.args in
     line_put a.id.now a.source.now a.out.now _ _ _ _ a.executed a.broken fills.result fills.ensures c.store.ensures c.store-2.ensures c.store-3.ensures
