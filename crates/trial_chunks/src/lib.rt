@@ -7,6 +7,7 @@ ghost use Rattle.lookup.specs.Beside.{Beside};
 ghost use Rattle.feed.specs.Steps.{hold_length, longest, room_at_end};
 
 use sheet_run::Kept;
+use std::io;
 use std::io::Print;
 
 // The least room of a case; the most is all of the output.
@@ -92,7 +93,16 @@ fn feed_in(
 {
     sheet_run::begin(t, heads, nexts);
     let kept = feed_chunks(rt, text, sizes, t, heads, nexts, hold, &mut out[0..room]);
-    sheet_run::end(rt, t, heads, nexts, hold, kept.held, kept.line, out);
+    sheet_run::end(
+        &mut io::writer(rt),
+        t,
+        heads,
+        nexts,
+        hold,
+        kept.held,
+        kept.line,
+        out,
+    );
 }
 
 // The sizes are taken in turn, and from the first again when they are used up. A write that fails shows where the output is compared.
@@ -124,7 +134,7 @@ fn feed_chunks(
     while at < text.len() {
         let n = chunk_length(sizes, turn, text.len() - at);
         kept = sheet_run::take(
-            rt,
+            &mut io::writer(rt),
             &text[at..at + n],
             t,
             heads,
