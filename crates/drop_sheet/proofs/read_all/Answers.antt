@@ -1,7 +1,6 @@
 -- `drop_sheet::read_all` meets its contract: chunk after chunk, what is read is one text. The measure is the number of turns that are left.
 use mathlib.Core.Bool.{not}
 use mathlib.Core.Path.{refl, sym, ◌∙◌, ap}
-use mathlib.Core.Logic.{⊎_elim}
 use borrow.Author.Tests.{not-false}
 use Rattle.sheet_run.proofs.Leading.{nothing_read, more_read, goes_on, unread}
 use borrow.Author.Rules.{rules}
@@ -32,11 +31,8 @@ pub loop-turns-preserved : goal.loop-turns-preserved
 loop-turns-preserved g c =
     let one = c.take-kept in
     let inv = c.loop-turns.invariant in
-    let read = goes_on c.if-not-kept.false (more_read inv.0 one.ensures.takes) in
-    (read, one.ensures.beside_2, one.auto.1.0 ∙ inv.2, one.auto.1.1.0 ∙ inv.3, one.auto.1.1.1.0 ∙ inv.4, c.read.auto.buf ∙ inv.5, one.auto.1.1.1.1.1.1.1.0 ∙ inv.6)
-
-pub shape_of-input : goal.shape_of-input
-shape_of-input g c = ⊎_elim (λ w. search rules) (λ w. search rules) c.loop-turns-test.branch
+    let read = goes_on (not-false _ c.if-not-kept.false) (more_read inv.0 one.ensures.takes) in
+    (read, one.ensures.beside_2, one.auto.t ∙ inv.2, one.auto.heads ∙ inv.3, one.auto.nexts ∙ inv.4, c.read.auto.buf ∙ inv.5, one.auto.out ∙ inv.6)
 
 pub returns : goal.returns
 returns g c = let inv = c.loop-turns.invariant in

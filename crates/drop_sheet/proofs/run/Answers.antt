@@ -16,33 +16,33 @@ returns-then-not-kept g c = λ e. absurd (false≢true e)
 pub end-requires : goal.end-requires
 end-requires g c =
     let takes = c.read_all-kept.ensures.reads.takes in
-    let room = room_kept (c.read_all-kept.auto.0 ∙ c.begin.kept.0) c.read_all-kept.auto.1.1.1.1.1.0 c.pre.1.1.1 in
+    let room = room_kept (c.read_all-kept.auto.t ∙ c.begin.auto.t) c.read_all-kept.auto.out c.requires.t_in_bounds in
     record { t_value = takes.sound; beside = c.read_all-kept.ensures.beside_2; hold_len = takes.long; held_le_hold_length = takes.few; t_in_bounds = room }
 
 pub shape_of-t-then-not-end : goal.shape_of-t-then-not-end
-shape_of-t-then-not-end g c = c.end.auto.0 ∙ c.read_all-kept.auto.0 ∙ (to-begin (goal.at.shape_of-t-then-not-end c).After-read_all-kept).begin.auto.0
+shape_of-t-then-not-end g c = c.end.auto.t ∙ c.read_all-kept.auto.t ∙ c.begin.auto.t
 
 pub shape_of-heads-then-not-end : goal.shape_of-heads-then-not-end
-shape_of-heads-then-not-end g c = c.end.auto.1.0 ∙ c.read_all-kept.auto.1.0 ∙ (to-begin (goal.at.shape_of-heads-then-not-end c).After-read_all-kept).begin.auto.1.0
+shape_of-heads-then-not-end g c = c.end.auto.heads ∙ c.read_all-kept.auto.heads ∙ c.begin.auto.heads
 
 pub shape_of-nexts-then-not-end : goal.shape_of-nexts-then-not-end
-shape_of-nexts-then-not-end g c = c.end.auto.1.1.0 ∙ c.read_all-kept.auto.1.1.0 ∙ (to-begin (goal.at.shape_of-nexts-then-not-end c).After-read_all-kept).begin.auto.1.1.0
+shape_of-nexts-then-not-end g c = c.end.auto.nexts ∙ c.read_all-kept.auto.nexts ∙ c.begin.auto.nexts
 
 pub returns-then-not-end : goal.returns-then-not-end
 returns-then-not-end g c = λ e. absurd (false≢true e)
 
 pub shape_of-t : goal.shape_of-t
-shape_of-t g c = c.end.auto.0 ∙ c.read_all-kept.auto.0 ∙ (to-begin (goal.at.shape_of-t c).After-read_all-kept).begin.auto.0
+shape_of-t g c = c.end.auto.t ∙ c.read_all-kept.auto.t ∙ c.begin.auto.t
 
 pub shape_of-heads : goal.shape_of-heads
-shape_of-heads g c = c.end.auto.1.0 ∙ c.read_all-kept.auto.1.0 ∙ (to-begin (goal.at.shape_of-heads c).After-read_all-kept).begin.auto.1.0
+shape_of-heads g c = c.end.auto.heads ∙ c.read_all-kept.auto.heads ∙ c.begin.auto.heads
 
 pub shape_of-nexts : goal.shape_of-nexts
-shape_of-nexts g c = c.end.auto.1.1.0 ∙ c.read_all-kept.auto.1.1.0 ∙ (to-begin (goal.at.shape_of-nexts c).After-read_all-kept).begin.auto.1.1.0
+shape_of-nexts g c = c.end.auto.nexts ∙ c.read_all-kept.auto.nexts ∙ c.begin.auto.nexts
 
 pub returns : goal.returns
 returns g c =
-    let room = room_kept (c.read_all-kept.kept.0 ∙ c.begin.kept.0) c.read_all-kept.kept.1.1.1.1.1.0 c.pre.1.1.1 in
+    let room = room_kept (c.read_all-kept.auto.t ∙ c.begin.auto.t) c.read_all-kept.auto.out c.requires.t_in_bounds in
     λ _.
     all_printed c.args.t.now c.begin.ensures.t_after c.read_all-kept.ensures.reads
-    c.if-not-kept.false c.end.ensures room
+    (not-false _ c.if-not-kept.false) c.end.ensures room

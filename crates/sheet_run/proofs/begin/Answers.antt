@@ -21,7 +21,7 @@ pub build-requires : goal.build-requires
 build-requires c =
     let made = c.make_empty in
     let before = c.args.t.now in
-    record { t_value = begun_sound before (never_refused before c.requires.nonzero made.ensures) c.requires.nonzero; in_bounds = c.requires.in_bounds.0; t_in_bounds = room_for_all _ _ _ made.auto.0 c.requires.in_bounds.1 }
+    record { t_value = begun_sound before (never_refused before c.requires.nonzero made.ensures) c.requires.nonzero; in_bounds = c.requires.in_bounds.0; t_in_bounds = room_for_all _ _ _ made.auto.t c.requires.in_bounds.1 }
 
 pub returns : goal.returns
 returns c =

@@ -22,13 +22,13 @@ loop-at-preserved g c =
       omega (arith, c.next_turn-turn.ensures),
       one.ensures.takes.few,
       one.ensures.takes.sound,
-      one.auto.1.0 ∙ inv.4,
+      one.auto.t ∙ inv.4,
       one.ensures.takes.long,
-      omega (arith, one.auto.1.1.1.1.1.1.1.0, inv.6),
-      one.auto.1.1.1.1.1.1.1.0 ∙ inv.7,
+      omega (arith, one.auto.out, inv.6),
+      one.auto.out ∙ inv.7,
       one.ensures.beside_2,
-      one.auto.1.1.0 ∙ inv.9,
-      one.auto.1.1.1.0 ∙ inv.10,
+      one.auto.heads ∙ inv.9,
+      one.auto.nexts ∙ inv.10,
     )
 
 pub returns : goal.returns

@@ -14,9 +14,9 @@ feed_chunks-kept-requires g c =
 pub end-requires : goal.end-requires
 end-requires g c =
     let fed = c.feed_chunks-kept in
-    let whole = same_len_mid 0 (c.args.room - 0) c.args.out.now fed.new.out fed.auto.1.1.1.1.1.1.0 in
-    let room = room_kept (fed.auto.1.1.0 ∙ c.begin.auto.0) whole c.requires.t_in_bounds in
+    let whole = same_len_mid 0 (c.args.room - 0) c.args.out.now fed.new.out fed.auto.out in
+    let room = room_kept (fed.auto.t ∙ c.begin.auto.t) whole c.requires.t_in_bounds in
     record { t_value = fed.ensures.held_le_hold_length.1; beside = fed.ensures.beside_2; hold_len = fed.ensures.held_le_hold_length.2; held_le_hold_length = fed.ensures.held_le_hold_length.0; t_in_bounds = room }
 
 pub shape_of-t : goal.shape_of-t
-shape_of-t g c = c.end.auto.0 ∙ c.feed_chunks-kept.auto.1.1.0 ∙ c.begin.auto.0
+shape_of-t g c = c.end.auto.t ∙ c.feed_chunks-kept.auto.t ∙ c.begin.auto.t
