@@ -6,12 +6,13 @@ use mathlib.Core.List.{List, [], ◌∷◌}
 use lib.ListN.{length, get_or, take, drop, get_or-append}
 use lib.Seq.{sets}
 use Rattle.run.proofs.Stores.{sets_start}
+use Rattle.book.specs.Bytes.{book_bytes}
 use Rattle.book_all.specs.InTurn.{answers_to}
 
 -- one for each piece
 pub answers_long : (table : List ℕ) (ps : List (List ℕ)) → length (answers_to table ps) ≡ length ps
 answers_long table [] = refl
-answers_long table (p ∷ ps) = ap suc (answers_long _ ps)
+answers_long table (p ∷ ps) = ap suc (answers_long (book_bytes table p) ps)
 
 -- so many pieces at most
 pub first_few : (n : ℕ) (ps : List (List ℕ)) → length (take n ps) ≤ n

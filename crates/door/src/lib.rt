@@ -1,5 +1,5 @@
-// The door for hosts: every public operation as a C function over numbers, byte slices and lent numbers. Each answers 0, or the refusal's number
-// plus 256 times its field; a refusal changes no lent number and no lent byte. include/skurzelt.h says it for people.
+// The door for hosts: every public operation over numbers, byte slices and lent numbers. Each answers 0, or the refusal's number plus 256 times its
+// field; a refusal changes no lent number and no lent byte. `door_c` hands each to C.
 #![tactic(auto)]
 
 ghost use Rattle.std.specs.Prelude.{◌≡◌, ◌≤◌, length};
@@ -19,8 +19,7 @@ use writing::{Checked, Written};
 const DONE: u32 = 0;
 
 // A piece as the 138 bytes of its record; kind is then 1. The end of the day is kind 0 and writes no record.
-#[unsafe(no_mangle)]
-pub extern "C" fn skurzelt_read(piece: &[u8], record: &mut [u8], kind: &mut u64) -> u32
+pub fn skurzelt_read(piece: &[u8], record: &mut [u8], kind: &mut u64) -> u32
     ensures { Reads piece.now «record».old kind.old result «record».new kind.new }
 {
     if record.len() < image::RECORD {
@@ -58,8 +57,7 @@ fn first_field(b: &[u8], odd: u8) -> u8
 }
 
 // A record of 138 bytes as its line.
-#[unsafe(no_mangle)]
-pub extern "C" fn skurzelt_write(record: &[u8], line: &mut [u8]) -> u32
+pub fn skurzelt_write(record: &[u8], line: &mut [u8]) -> u32
     ensures { Writes «record».now line.old result line.new }
 {
     if line.len() < layout::LINE {
@@ -78,8 +76,7 @@ pub extern "C" fn skurzelt_write(record: &[u8], line: &mut [u8]) -> u32
     }
 }
 
-#[unsafe(no_mangle)]
-pub extern "C" fn skurzelt_strike_value(denominator: u8, strike: u64, value: &mut u64) -> u32
+pub fn skurzelt_strike_value(denominator: u8, strike: u64, value: &mut u64) -> u32
     ensures { StrikeValues denominator strike value.old result value.new }
 {
     match line::strike_value(denominator, strike) {
@@ -91,8 +88,7 @@ pub extern "C" fn skurzelt_strike_value(denominator: u8, strike: u64, value: &mu
     }
 }
 
-#[unsafe(no_mangle)]
-pub extern "C" fn skurzelt_strike_form(value: u64, denominator: &mut u64, strike: &mut u64) -> u32
+pub fn skurzelt_strike_form(value: u64, denominator: &mut u64, strike: &mut u64) -> u32
     ensures { StrikeForms value denominator.old strike.old result denominator.new strike.new }
 {
     match line::strike_form(value) {
@@ -105,8 +101,7 @@ pub extern "C" fn skurzelt_strike_form(value: u64, denominator: &mut u64, strike
     }
 }
 
-#[unsafe(no_mangle)]
-pub extern "C" fn skurzelt_clock(
+pub fn skurzelt_clock(
     timestamp: u64,
     hours: &mut u64,
     minutes: &mut u64,
@@ -127,8 +122,7 @@ pub extern "C" fn skurzelt_clock(
     }
 }
 
-#[unsafe(no_mangle)]
-pub extern "C" fn skurzelt_empty_table(table: &mut [u8]) -> u32
+pub fn skurzelt_empty_table(table: &mut [u8]) -> u32
     ensures { Empties table.old result table.new }
 {
     match table::make_empty(table) {
@@ -137,8 +131,7 @@ pub extern "C" fn skurzelt_empty_table(table: &mut [u8]) -> u32
     }
 }
 
-#[unsafe(no_mangle)]
-pub extern "C" fn skurzelt_check_table(table: &[u8]) -> u32
+pub fn skurzelt_check_table(table: &[u8]) -> u32
     ensures { Checks table.now result }
 {
     if damage::is_sound(table) {
@@ -148,8 +141,7 @@ pub extern "C" fn skurzelt_check_table(table: &[u8]) -> u32
 }
 
 // The place of the earliest order with a key.
-#[unsafe(no_mangle)]
-pub extern "C" fn skurzelt_find_order(table: &[u8], key: &[u8], place: &mut u64) -> u32
+pub fn skurzelt_find_order(table: &[u8], key: &[u8], place: &mut u64) -> u32
     ensures { Finds table.now key.now place.old result place.new }
 {
     match table::look_up(table, key) {
@@ -162,8 +154,7 @@ pub extern "C" fn skurzelt_find_order(table: &[u8], key: &[u8], place: &mut u64)
 }
 
 // The 80 bytes of the order at a place.
-#[unsafe(no_mangle)]
-pub extern "C" fn skurzelt_order_at(table: &[u8], place: u64, order: &mut [u8]) -> u32
+pub fn skurzelt_order_at(table: &[u8], place: u64, order: &mut [u8]) -> u32
     ensures { OrdersAt table.now place order.old result order.new }
 {
     match table::copy_order(table, place as usize, order) {
@@ -173,8 +164,7 @@ pub extern "C" fn skurzelt_order_at(table: &[u8], place: u64, order: &mut [u8]) 
 }
 
 // The 49 bytes of the quote row at a place.
-#[unsafe(no_mangle)]
-pub extern "C" fn skurzelt_quote_at(table: &[u8], place: u64, row: &mut [u8]) -> u32
+pub fn skurzelt_quote_at(table: &[u8], place: u64, row: &mut [u8]) -> u32
     ensures { QuotesAt table.now place row.old result row.new }
 {
     match table::copy_row(table, place as usize, row) {
@@ -183,8 +173,7 @@ pub extern "C" fn skurzelt_quote_at(table: &[u8], place: u64, row: &mut [u8]) ->
     }
 }
 
-#[unsafe(no_mangle)]
-pub extern "C" fn skurzelt_book(table: &mut [u8], piece: &[u8]) -> u32
+pub fn skurzelt_book(table: &mut [u8], piece: &[u8]) -> u32
     ensures { BooksIn table.old piece.now result table.new }
 {
     match book::book(table, piece) {
@@ -194,8 +183,7 @@ pub extern "C" fn skurzelt_book(table: &mut [u8], piece: &[u8]) -> u32
 }
 
 // A text in one call: answers has 0 or a refusal for each piece, used is how many bytes of the text were used, booked how many pieces.
-#[unsafe(no_mangle)]
-pub extern "C" fn skurzelt_book_all(
+pub fn skurzelt_book_all(
     table: &mut [u8],
     text: &[u8],
     answers: &mut [u32],
@@ -215,8 +203,7 @@ pub extern "C" fn skurzelt_book_all(
 }
 
 // The family sheet; written is how many bytes it has.
-#[unsafe(no_mangle)]
-pub extern "C" fn skurzelt_sheet(table: &[u8], out: &mut [u8], written: &mut u64) -> u32
+pub fn skurzelt_sheet(table: &[u8], out: &mut [u8], written: &mut u64) -> u32
     ensures { SheetsIn table.now out.old written.old result out.new written.new }
 {
     match sheet::write(table, out) {
@@ -229,8 +216,7 @@ pub extern "C" fn skurzelt_sheet(table: &[u8], out: &mut [u8], written: &mut u64
 }
 
 // The place behind the piece that starts at a place; where nothing is left, that place.
-#[unsafe(no_mangle)]
-pub extern "C" fn skurzelt_next_piece(text: &[u8], at: u64, end: &mut u64) -> u32
+pub fn skurzelt_next_piece(text: &[u8], at: u64, end: &mut u64) -> u32
     ensures { NextPieces text.now at result end.new }
 {
     match piece::next(text, at as usize) {

@@ -2,7 +2,7 @@
 use Prim.Native.Nat.{ℕ, zero, suc, ◌+◌, ◌/◌, ◌^◌, ◌≤◌, ◌<◌}
 use native.Mathlib.Nat.{pow-suc, zero-add}
 use native.Mathlib.Omega.{arith}
-use mathlib.Core.Path.{◌≡◌, refl, sym, ap, ◌∙◌}
+use mathlib.Core.Path.{◌≡◌, refl, sym, ap, subst, ◌∙◌}
 use mathlib.Core.Bool.{true, false, not, ◌&&◌}
 use mathlib.Core.List.{List, [], ◌∷◌}
 use borrow.Author.Tests.{eq-eqb, leb-true, ltb-true}
@@ -112,7 +112,7 @@ module _ (r : Record) (h : LawfulRecord r) where
   number_cell k e =
       let c = cell_at (cells r) k in
       ap (λ b. part b c.at c.len) (numbers_are_cells r (take 138 (line_of r)))
-      ∙ part_cell (cells r) (take 138 (line_of r)) k (rw front_length e)
+      ∙ part_cell (cells r) (take 138 (line_of r)) k (subst (λ n. clear n (cells r) k ≡ true) (sym front_length) e)
 
   one_byte : (i b : ℕ) → part image i 1 ≡ b ∷ [] → get_or image i 0 ≡ b
   one_byte i b e = let z : i + 0 ≡ i = omega arith in rw z at (sym (get_d_part image i 1 0 (omega arith))) ∙ ap (λ l. get_or l 0 0) e

@@ -1,18 +1,22 @@
 -- Where a reader stands: what the answer about the next piece says of its place, and what is left behind it.
 use Prim.Native.Nat.{ℕ, ◌+◌, ◌-◌, ◌≤◌, ◌<◌}
 use native.Mathlib.Omega.{arith}
-use mathlib.Core.Path.{◌≡◌, refl, sym}
+use mathlib.Core.Path.{◌≡◌, refl, sym, ap, ◌∙◌}
 use mathlib.Core.Bool.{Bool, true, false, cond}
 use mathlib.Core.List.{List}
 use borrow.Author.Tests.{ltb-true, ltb-false, lt-ltb, le-ltb}
 use lib.Dec.{ltb}
 use lib.ListN.{length, get_or, take, drop, drop_of_length-le, length-drop}
 use Rattle.piece.specs.Pieces.{pieces, piece_length, next_piece}
+use Rattle.piece.specs.Promises.{Nexts}
+use Rattle.piece.specs.declared.Ahead.{Ahead}
 use Rattle.piece.specs.declared.Ahead.TheVariants.{Piece, Nothing}
 use Rattle.run.proofs.Scan.{at_next}
 use Rattle.piece.proofs.Firsts.{first_piece_at}
 use Rattle.piece.proofs.Lengths.{ends_at_end, piece_some, piece_inside}
+use Rattle.reader.specs.Reading.{past_piece}
 use Rattle.reader.specs.Starting.{piece_from, place_behind, place_in}
+use Rattle.reader.specs.declared.Reader.{Reader}
 
 module _ (s : List ℕ) (at : ℕ) where
   pub piece_ahead : (e : ℕ) → next_piece s at ≡ Piece e → (at < length s) × (e ≡ place_behind s at)
@@ -41,9 +45,6 @@ module _ (s : List ℕ) (at : ℕ) where
   pub counted : (n e : ℕ) → at < length s → e ≡ place_behind s at → n + length (pieces (drop at s)) ≡ n + 1 + length (pieces (drop e s))
   counted n e h k = rw (first_piece_at s at h, k) (omega arith)
 
-  pub all_counted : (n : ℕ) → length s ≤ at → n + length (pieces (drop at s)) ≡ n
-  all_counted n h = rw (drop_of_length-le s h) (omega arith)
-
   -- ---- the piece that is handed over
 
   pub part_said : (e : ℕ) → e ≡ place_behind s at → take (e - at) (drop at s) ≡ piece_from s at
@@ -57,3 +58,16 @@ module _ (s : List ℕ) (at : ℕ) where
 
   pub place_at_end : length s ≤ at → place_in s at ≡ length s
   place_at_end h = rw (le-ltb at (length s) h)
+
+-- ---- a turn over the text s, by what its calls ensure
+
+module _ (r : Reader) (s : List ℕ) {a : Ahead} (over : r.text.now ≡ s) (answer : Nexts r.text.now r.at a) where
+  -- it goes past the piece ahead
+  pub goes_past : (e : ℕ) {q : Reader} → a ≡ Piece e → q ≡ past_piece r → (r.at < length s) × (q.text ≡ r.text) × (q.at ≡ place_behind s r.at)
+  goes_past e i p =
+      let ahead = piece_ahead r.text.now r.at e (sym answer.said ∙ i) in
+      (rw over at ahead.0, ap (λ (x : Reader). x.text) p, ap (λ (x : Reader). x.at) p ∙ ap (λ x. place_behind x r.at) over)
+
+  -- it finds that nothing is left
+  pub finds_none : a ≡ Nothing → length s ≤ r.at
+  finds_none i = let none = nothing_ahead r.text.now r.at (sym answer.said ∙ i) in rw over at none.0

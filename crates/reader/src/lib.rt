@@ -1,5 +1,4 @@
-// A reader over lent text. The borrow checker covers no function over such a struct, so each is proved by hand: four are thin, and `count` and `nth`
-// stand above them with plain parameters, for callers.
+// A reader over lent text. Four functions over it are thin, and `count` and `nth` stand above them with plain parameters, for callers.
 #![tactic(auto)]
 
 ghost use Rattle.std.specs.Prelude.{◌≡◌, length};

@@ -3,85 +3,88 @@
 
 ghost use Rattle.std.specs.Prelude.{◌<◌};
 
+use std::io::Print;
+
 pub mod show;
 
-pub fn text(s: &[u8]) {
-    io::write_all(libc::STDOUT_FILENO, s);
+// What cannot be written is let go: it shows where the output is compared.
+pub fn text(rt: &impl Print, s: &[u8]) {
+    let _ = rt.write_all(s);
 }
 
 // A word and a number behind it.
-pub fn numbered(word: &[u8], n: u64) {
-    text(word);
-    io::print_decimal(libc::STDOUT_FILENO, n);
+pub fn numbered(rt: &impl Print, word: &[u8], n: u64) {
+    text(rt, word);
+    let _ = rt.print(n);
 }
 
 // All of a buffer, in brackets.
-pub fn bytes(s: &[u8]) {
-    text(b" [");
-    text(s);
-    text(b"]");
+pub fn bytes(rt: &impl Print, s: &[u8]) {
+    text(rt, b" [");
+    text(rt, s);
+    text(rt, b"]");
 }
 
 // refused R, with field F after a 3, from the one number that says it.
-pub fn refused(code: u32) {
-    numbered(b" refused ", (code % 256) as u64);
+pub fn refused(rt: &impl Print, code: u32) {
+    numbered(rt, b" refused ", (code % 256) as u64);
     if 255 < code {
-        numbered(b" field ", (code / 256) as u64);
+        numbered(rt, b" field ", (code / 256) as u64);
     }
 }
 
 // A refusal, and the numbers that were lent as it left them.
-pub fn left(code: u32, lent: &[u64]) {
-    refused(code);
-    text(b" left");
+pub fn left(rt: &impl Print, code: u32, lent: &[u64]) {
+    refused(rt, code);
+    text(rt, b" left");
     let mut i = 0;
     while i < lent.len() {
-        numbered(b" ", lent[i]);
+        numbered(rt, b" ", lent[i]);
         i += 1;
     }
 }
 
 // The one number that was lent, behind its word where the entry is done.
-pub fn number(word: &[u8], code: u32, n: u64) {
+pub fn number(rt: &impl Print, word: &[u8], code: u32, n: u64) {
     if code == 0 {
-        numbered(word, n);
+        numbered(rt, word, n);
         return;
     }
-    left(code, &[n]);
+    left(rt, code, &[n]);
 }
 
 // A list of answers, each as its one number, in brackets.
-pub fn answers(list: &[u32]) {
-    text(b" [");
+pub fn answers(rt: &impl Print, list: &[u32]) {
+    text(rt, b" [");
     let mut i = 0;
     while i < list.len() {
-        one(list[i]);
+        one(rt, list[i]);
         i += 1;
     }
-    text(b"]");
+    text(rt, b"]");
 }
 
-fn one(code: u32) {
-    numbered(b" ", code as u64);
+fn one(rt: &impl Print, code: u32) {
+    numbered(rt, b" ", code as u64);
 }
 
-pub fn answer(code: u32) {
+pub fn answer(rt: &impl Print, code: u32) {
     if code == 0 {
-        text(b" done");
+        text(rt, b" done");
     } else {
-        refused(code);
+        refused(rt, code);
     }
 }
 
 // A buffer that was lent: how long it is, the answer, and all its bytes.
-pub fn filled(word: &[u8], code: u32, s: &[u8]) {
-    numbered(word, s.len() as u64);
-    answer(code);
-    bytes(s);
+pub fn filled(rt: &impl Print, word: &[u8], code: u32, s: &[u8]) {
+    numbered(rt, word, s.len() as u64);
+    answer(rt, code);
+    bytes(rt, s);
 }
 
-pub fn sum(s: &[u8]) {
-    numbered(b" sum ", adler(s));
+pub fn sum(rt: &impl Print, s: &[u8]) {
+    numbered(rt, b" sum ", adler(s));
 }
 
 // Adler-32. Both halves are cut back at each byte, so that no run is too long for them.

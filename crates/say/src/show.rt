@@ -2,6 +2,7 @@
 ghost use Rattle.std.specs.Prelude.{◌≤◌};
 
 use field::put;
+use std::io::Print;
 
 // Each of these writes where there is room, so that nothing has to be shown of a text's length.
 fn put_run(text: &mut [u8], at: usize, s: &[u8]) {
@@ -50,7 +51,7 @@ fn counted(width: usize) -> usize
 }
 
 // A record from its 138 bytes: every field in brackets, at its full width.
-pub fn record(b: &[u8]) {
+pub fn record(rt: &impl Print, b: &[u8]) {
     let mut text = [0u8; 256];
     run::copy(
         &mut text,
@@ -62,7 +63,7 @@ pub fn record(b: &[u8]) {
     option_fields(&mut text, b);
     number_fields(&mut text, b);
     id_fields(&mut text, b);
-    crate::text(&text);
+    crate::text(rt, &text);
 }
 
 // Fields 2, 4, 5 and 6.
@@ -119,20 +120,20 @@ fn id_fields(text: &mut [u8], b: &[u8]) {
 }
 
 // A strike's letter and its six digits.
-pub fn strike(denominator: u64, strike: u64) {
+pub fn strike(rt: &impl Print, denominator: u64, strike: u64) {
     let mut text = [0u8; 20];
     put_run(&mut text, 0, b"strike form C DDDDDD");
     text[12] = (denominator % 256) as u8;
     put_number(&mut text, 14, 6, strike, b'0');
-    crate::text(&text);
+    crate::text(rt, &text);
 }
 
-pub fn time(hours: u64, minutes: u64, seconds: u64, milliseconds: u64) {
+pub fn time(rt: &impl Print, hours: u64, minutes: u64, seconds: u64, milliseconds: u64) {
     let mut text = [0u8; 13];
     put_run(&mut text, 0, b" HH:MM:SS.mmm");
     put_number(&mut text, 1, 2, hours, b'0');
     put_number(&mut text, 4, 2, minutes, b'0');
     put_number(&mut text, 7, 2, seconds, b'0');
     put_number(&mut text, 10, 3, milliseconds, b'0');
-    crate::text(&text);
+    crate::text(rt, &text);
 }

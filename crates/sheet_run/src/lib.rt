@@ -8,6 +8,8 @@ ghost use Rattle.book.specs.Bytes.{bytes_after};
 ghost use Rattle.feed.specs.Steps.{between, held_in, hold_length, longest, room_at_end};
 ghost use Rattle.sheet_run.specs.Promises.{Ends, Takes};
 
+use std::io::Write;
+
 // What a chunk leaves for the next: how much is held, and the number of the piece to come; and whether all that was said is written out.
 #[derive(Clone, Copy)]
 pub struct Kept {
@@ -36,6 +38,7 @@ pub fn begin(t: &mut [u8], heads: &mut [u16], nexts: &mut [u16])
 
 // All of a chunk: one step after another, and what each says is written out before the next. A write that fails ends it.
 pub fn take(
+    to: &mut impl Write,
     chunk: &[u8],
     t: &mut [u8],
     heads: &mut [u16],
@@ -58,7 +61,7 @@ pub fn take(
     let mut number = line;
     while used < chunk.len() {
         let fed = feed::step(&chunk[used..], t, heads, nexts, hold, kept, number, out);
-        if !say(out, fed.wrote) {
+        if !say(to, out, fed.wrote) {
             return Kept {
                 held: fed.held,
                 line: fed.line,
@@ -78,6 +81,7 @@ pub fn take(
 
 // The piece that is held, and the sheet. The answer says whether all of it is written out.
 pub fn end(
+    to: &mut impl Write,
     t: &mut [u8],
     heads: &mut [u16],
     nexts: &mut [u16],
@@ -94,12 +98,12 @@ pub fn end(
     ensures { Ends (between (held_in hold.now held) line t.old) out.old t.new out.new }
 {
     let n = feed::finish(t, heads, nexts, hold, held, line, out);
-    say(out, n)
+    say(to, out, n)
 }
 
 // Whether all n bytes are written out.
-fn say(out: &[u8], n: usize) -> bool
+fn say(to: &mut impl Write, out: &[u8], n: usize) -> bool
     requires { n ≤ length out.now }
 {
-    io::write_all(libc::STDOUT_FILENO, &out[0..n])
+    to.write_all(&out[0..n]).is_ok()
 }

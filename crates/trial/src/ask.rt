@@ -1,36 +1,37 @@
 // A case by its kind. A case that answers false has printed nothing: its payload is not as its kind says.
 use crate::{chunks, tables, texts};
+use std::io::Print;
 
 // The table in hand is the first len bytes of table. A case's last line ends here, whatever it says.
-pub fn case(kind: u8, s: &[u8], table: &mut [u8], len: &mut usize) {
-    if !answered(kind, s, table, len) {
-        say::text(b"bad case");
+pub fn case(rt: &impl Print, kind: u8, s: &[u8], table: &mut [u8], len: &mut usize) {
+    if !answered(rt, kind, s, table, len) {
+        say::text(rt, b"bad case");
     }
-    say::text(b"\n");
+    say::text(rt, b"\n");
 }
 
-fn answered(kind: u8, s: &[u8], table: &mut [u8], len: &mut usize) -> bool {
+fn answered(rt: &impl Print, kind: u8, s: &[u8], table: &mut [u8], len: &mut usize) -> bool {
     match kind {
-        b'n' => name(s),
-        b'r' => trial_lines::read(s),
-        b'i' => trial_lines::read_into(s),
-        b'w' => trial_lines::write(s),
-        b's' => trial_lines::strike_value(s),
-        b'f' => trial_lines::strike_form(s),
-        b'k' => trial_lines::clock(s),
-        b'x' => texts::next_piece(s),
-        b'y' => texts::count(s),
-        b'z' => texts::given(s),
-        b'c' => chunks::case(s),
-        _ => tables::case(kind, s, table, len),
+        b'n' => name(rt, s),
+        b'r' => trial_lines::read(rt, s),
+        b'i' => trial_lines::read_into(rt, s),
+        b'w' => trial_lines::write(rt, s),
+        b's' => trial_lines::strike_value(rt, s),
+        b'f' => trial_lines::strike_form(rt, s),
+        b'k' => trial_lines::clock(rt, s),
+        b'x' => texts::next_piece(rt, s),
+        b'y' => texts::count(rt, s),
+        b'z' => texts::given(rt, s),
+        b'c' => chunks::case(rt, s),
+        _ => tables::case(rt, kind, s, table, len),
     }
 }
 
-fn name(s: &[u8]) -> bool {
+fn name(rt: &impl Print, s: &[u8]) -> bool {
     if run::member(b'\n', s) {
         return false;
     }
-    say::text(b"== ");
-    say::text(s);
+    say::text(rt, b"== ");
+    say::text(rt, s);
     true
 }

@@ -1,6 +1,7 @@
 // The case about the sheet program: a text in chunks through its steps.
+use std::io::Print;
 
-pub fn case(s: &[u8]) -> bool {
+pub fn case(rt: &impl Print, s: &[u8]) -> bool {
     if s.len() < 6 {
         return false;
     }
@@ -9,5 +10,5 @@ pub fn case(s: &[u8]) -> bool {
         return false;
     }
     let text = 6 + count * 2;
-    trial_chunks::feed_all(&s[text..], &s[6..text], cell::get(s, 0, 4) as usize)
+    trial_chunks::feed_all(rt, &s[text..], &s[6..text], cell::get(s, 0, 4) as usize)
 }

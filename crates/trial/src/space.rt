@@ -1,6 +1,13 @@
 // The large buffers. Each `ensures` is what lending the array needs.
 ghost use Rattle.std.specs.Prelude.{◌≡◌, length};
 
+// Room for the longest payload.
+pub fn payload() -> [u8; 65_536]
+    ensures { 65536 ≡ length result }
+{
+    [0; 65_536]
+}
+
 // Room for the longest table in hand.
 pub fn table() -> [u8; 47_400]
     ensures { 47400 ≡ length result }

@@ -7,24 +7,27 @@ ghost use Rattle.lookup.specs.Beside.{Beside};
 ghost use Rattle.feed.specs.Steps.{hold_length, longest, room_at_end};
 
 use sheet_run::Kept;
+use std::io;
+use std::io::Print;
 
 // The least room of a case; the most is all of the output.
 const LEAST: usize = 64;
 
 // All that the sheet program writes for the text. A case that answers false has printed nothing.
-pub fn feed_all(text: &[u8], sizes: &[u8], room: usize) -> bool {
+pub fn feed_all(rt: &impl Print, text: &[u8], sizes: &[u8], room: usize) -> bool {
     let mut table = sheet_run::table_buffer();
     let mut heads = lookup::heads_buffer();
     let mut nexts = lookup::nexts_buffer();
     let mut hold = [0u8; feed::HOLD];
     let mut out = output();
     feed_good(
-        text, sizes, room, &mut table, &mut heads, &mut nexts, &mut hold, &mut out,
+        rt, text, sizes, room, &mut table, &mut heads, &mut nexts, &mut hold, &mut out,
     )
 }
 
 // In lent buffers, if the room and the sizes are a case's.
 fn feed_good(
+    rt: &impl Print,
     text: &[u8],
     sizes: &[u8],
     room: usize,
@@ -51,9 +54,9 @@ fn feed_good(
     if any_zero(sizes) {
         return false;
     }
-    say::text(b"fed [");
-    feed_in(text, sizes, room, t, heads, nexts, hold, out);
-    say::text(b"]");
+    say::text(rt, b"fed [");
+    feed_in(rt, text, sizes, room, t, heads, nexts, hold, out);
+    say::text(rt, b"]");
     true
 }
 
@@ -71,6 +74,7 @@ fn any_zero(sizes: &[u8]) -> bool {
 
 // Each step may write room bytes; what comes at the end may be longer.
 fn feed_in(
+    rt: &impl Print,
     text: &[u8],
     sizes: &[u8],
     room: usize,
@@ -88,12 +92,22 @@ fn feed_in(
     requires t_in_bounds { room_at_end (limit_of (length t.old)) ≤ length out.old }
 {
     sheet_run::begin(t, heads, nexts);
-    let kept = feed_chunks(text, sizes, t, heads, nexts, hold, &mut out[0..room]);
-    sheet_run::end(t, heads, nexts, hold, kept.held, kept.line, out);
+    let kept = feed_chunks(rt, text, sizes, t, heads, nexts, hold, &mut out[0..room]);
+    sheet_run::end(
+        &mut io::writer(rt),
+        t,
+        heads,
+        nexts,
+        hold,
+        kept.held,
+        kept.line,
+        out,
+    );
 }
 
 // The sizes are taken in turn, and from the first again when they are used up. A write that fails shows where the output is compared.
 fn feed_chunks(
+    rt: &impl Print,
     text: &[u8],
     sizes: &[u8],
     t: &mut [u8],
@@ -120,6 +134,7 @@ fn feed_chunks(
     while at < text.len() {
         let n = chunk_length(sizes, turn, text.len() - at);
         kept = sheet_run::take(
+            &mut io::writer(rt),
             &text[at..at + n],
             t,
             heads,

@@ -1,9 +1,9 @@
 -- Checking one field after another: what a field's test makes of the check.
 use Prim.Native.Nat.{ℕ, suc, ◌<◌, ◌^◌}
 use mathlib.Core.Path.{◌≡◌, sym, ◌∙◌}
-use mathlib.Core.Bool.{Bool, true, false, cond, not, ◌&&◌}
+use mathlib.Core.Bool.{Bool, true, false, cond, ◌&&◌}
 use mathlib.Core.List.{List, [], ◌∷◌}
-use borrow.Author.Tests.{eq-eqb, not-true, not-false}
+use borrow.Author.Tests.{eq-eqb}
 use lib.Dec.{eqb, leb, ltb, leb-zero}
 use lib.ListN.{length, drop}
 use lib.Seq.{drop-cons}
@@ -36,11 +36,11 @@ judged k r h e = rw (drop-cons (layout_for r) k no_field h, drop-cons (fields_of
 
 -- by a test of the field
 module _ (k : ℕ) (r : Record) {b : Bool} (h : k < 24) (e : b ≡ lawful_at r k) where
-  pub test_passes : not b ≡ false → Past k (suc k) r
-  test_passes t = judged k r h (sym e ∙ not-false b t)
+  pub test_passes : b ≡ true → Past k (suc k) r
+  test_passes t = judged k r h (sym e ∙ t)
 
-  pub test_fails : not b ≡ true → check_of (field_for r k).no ≡ check_from k r
-  test_fails t = judged k r h (sym e ∙ not-true b t)
+  pub test_fails : b ≡ false → check_of (field_for r k).no ≡ check_from k r
+  test_fails t = judged k r h (sym e ∙ t)
 
 -- by what a reader answers of the field's bytes
 module _ (k : ℕ) (r : Record) {x : Bytes} (h : k < 24) (e : x ≡ lawful_if (lawful_at r k)) where

@@ -14,7 +14,7 @@ test : (c : In-loop-at) → (c.loop-at.at < length c.args.text.now) × (c.loop-a
 test c = goes_on c.loop-at.at c.loop-at.n c.args.text.now c.loop-at.answers c.loop-at-test.true
 
 bounds : (c : After-cut-cut) → (c.loop-at.at < c.cut-cut.result.end) × (c.cut-cut.result.end ≤ length c.args.text.now)
-bounds c = piece_bounds c.args.text.now c.loop-at.at c.cut-cut.result.end (test ⟪In-loop-at⟫).0 c.cut-cut.ensures.ends
+bounds c = piece_bounds c.args.text.now c.loop-at.at c.cut-cut.result.end (goes_on c.loop-at.at c.loop-at.n c.args.text.now c.loop-at.answers c.loop-at-test.true).0 c.cut-cut.ensures.ends
 
 pub loop-at-init : goal.loop-at-init
 loop-at-init c =
@@ -42,7 +42,7 @@ loop-at-preserved c =
     let turn = c.loop-at in
     let piece = c.cut-cut in
     let booked = c.book_sound in
-    (next_turn turn.invariant.0 piece.result.end (test (goal.at.loop-at-preserved c).In-loop-at).0 (test (goal.at.loop-at-preserved c).In-loop-at).1 piece.ensures.ends booked.ensures.books c.answer.ensures, booked.ensures.beside_2, booked.auto.1.0 ∙ turn.invariant.2, booked.auto.1.1.0 ∙ turn.invariant.3)
+    (next_turn turn.invariant.0 piece.result.end (test (goal.at.loop-at-preserved c).In-loop-at).0 (test (goal.at.loop-at-preserved c).In-loop-at).1 piece.ensures.ends booked.ensures.books c.answer.ensures, booked.ensures.beside_2, booked.auto.heads ∙ turn.invariant.2, booked.auto.nexts ∙ turn.invariant.3)
 
 pub shape_of-t : goal.shape_of-t
 shape_of-t c = c.loop-at.invariant.0.same_table

@@ -8,36 +8,36 @@ use borrow.Author.Rules.{rules}
 use Rattle.drop_sheet.proofs.read_all.Goals as goal
 
 pub loop-turns-init : goal.loop-turns-init
-loop-turns-init c =
+loop-turns-init g c =
     (nothing_read c.args.hold.now c.args.t.now 1 (search rules) c.requires.t_value, c.requires.beside, refl, refl, refl, refl, refl)
 
 pub returns-then-n-eq0 : goal.returns-then-n-eq0
-returns-then-n-eq0 c = let inv = c.loop-turns.invariant in
+returns-then-n-eq0 g c = let inv = c.loop-turns.invariant in
     record { reads = inv.0; beside_2 = inv.1 }
 
 pub take-kept-requires : goal.take-kept-requires
-take-kept-requires c =
+take-kept-requires g c =
     let inv = c.loop-turns.invariant in
     let read = inv.0.takes in
     record { t_value = read.sound; beside = inv.1; hold_len = read.long; held_le_hold_length = read.few; longest_in_bounds = search rules }
 
 pub shape_of-hold-then-not-kept : goal.shape_of-hold-then-not-kept
-shape_of-hold-then-not-kept c = c.take-kept.ensures.takes.long ∙ sym c.requires.hold_len
+shape_of-hold-then-not-kept g c = c.take-kept.ensures.takes.long ∙ sym c.requires.hold_len
 
 pub returns-then-not-kept : goal.returns-then-not-kept
-returns-then-not-kept c = let one = c.take-kept.ensures in
+returns-then-not-kept g c = let one = c.take-kept.ensures in
     record { reads = more_read c.loop-turns.invariant.0 one.takes; beside_2 = one.beside_2 }
 
 pub loop-turns-preserved : goal.loop-turns-preserved
-loop-turns-preserved c =
+loop-turns-preserved g c =
     let one = c.take-kept in
     let inv = c.loop-turns.invariant in
     let read = goes_on c.if-not-kept.false (more_read inv.0 one.ensures.takes) in
-    (read, one.ensures.beside_2, one.auto.1.0 ∙ inv.2, one.auto.1.1.0 ∙ inv.3, one.auto.1.1.1.0 ∙ inv.4, c.read-got.auto.1.0 ∙ inv.5, one.auto.1.1.1.1.1.1.1.0 ∙ inv.6)
+    (read, one.ensures.beside_2, one.auto.1.0 ∙ inv.2, one.auto.1.1.0 ∙ inv.3, one.auto.1.1.1.0 ∙ inv.4, c.read.auto.buf ∙ inv.5, one.auto.1.1.1.1.1.1.1.0 ∙ inv.6)
 
 pub shape_of-input : goal.shape_of-input
-shape_of-input c = ⊎_elim (λ w. search rules) (λ w. search rules) c.loop-turns-test.branch
+shape_of-input g c = ⊎_elim (λ w. search rules) (λ w. search rules) c.loop-turns-test.branch
 
 pub returns : goal.returns
-returns c = let inv = c.loop-turns.invariant in
+returns g c = let inv = c.loop-turns.invariant in
     record { reads = unread inv.0; beside_2 = inv.1 }

@@ -10,11 +10,11 @@ use Rattle.drop_sheet.proofs.read_all.Given as goal
 
 -- what is read, the index beside the table, and buffers of the same length
 abbrev pub invariant-loop-turns : goal.invariant-loop-turns
-invariant-loop-turns l =
+invariant-loop-turns g l =
     Reads (between [] 1 l.initial.t) (gone l.held l.line) l.t l.hold × Beside l.t l.heads l.nexts × (length l.t ≡ length l.initial.t) × (length l.heads ≡ length l.initial.heads)
     × (length l.nexts ≡ length l.initial.nexts)
     × (length l.input ≡ length l.initial.input)
     × (length l.out ≡ length l.initial.out)
 
 abbrev pub decreases-loop-turns : goal.decreases-loop-turns
-decreases-loop-turns l = l.turns
+decreases-loop-turns g l = l.turns

@@ -7,41 +7,41 @@ use borrow.Author.Rules.{rules}
 use Rattle.drop_sheet.proofs.run.Goals as goal
 
 pub read_all-kept-requires : goal.read_all-kept-requires
-read_all-kept-requires c =
+read_all-kept-requires g c =
     record { t_value = begun_sound c.args.t.now c.begin.ensures.t_after c.requires.nonzero; beside = c.begin.ensures.beside; hold_len = search rules; longest_in_bounds = search rules }
 
 pub returns-then-not-kept : goal.returns-then-not-kept
-returns-then-not-kept c = λ e. absurd (false≢true e)
+returns-then-not-kept g c = λ e. absurd (false≢true e)
 
 pub end-requires : goal.end-requires
-end-requires c =
+end-requires g c =
     let takes = c.read_all-kept.ensures.reads.takes in
     let room = room_kept (c.read_all-kept.auto.0 ∙ c.begin.kept.0) c.read_all-kept.auto.1.1.1.1.1.0 c.pre.1.1.1 in
     record { t_value = takes.sound; beside = c.read_all-kept.ensures.beside_2; hold_len = takes.long; held_le_hold_length = takes.few; t_in_bounds = room }
 
 pub shape_of-t-then-not-end : goal.shape_of-t-then-not-end
-shape_of-t-then-not-end c = c.end.auto.0 ∙ c.read_all-kept.auto.0 ∙ (to-begin (goal.at.shape_of-t-then-not-end c).After-read_all-kept).begin.auto.0
+shape_of-t-then-not-end g c = c.end.auto.0 ∙ c.read_all-kept.auto.0 ∙ (to-begin (goal.at.shape_of-t-then-not-end c).After-read_all-kept).begin.auto.0
 
 pub shape_of-heads-then-not-end : goal.shape_of-heads-then-not-end
-shape_of-heads-then-not-end c = c.end.auto.1.0 ∙ c.read_all-kept.auto.1.0 ∙ (to-begin (goal.at.shape_of-heads-then-not-end c).After-read_all-kept).begin.auto.1.0
+shape_of-heads-then-not-end g c = c.end.auto.1.0 ∙ c.read_all-kept.auto.1.0 ∙ (to-begin (goal.at.shape_of-heads-then-not-end c).After-read_all-kept).begin.auto.1.0
 
 pub shape_of-nexts-then-not-end : goal.shape_of-nexts-then-not-end
-shape_of-nexts-then-not-end c = c.end.auto.1.1.0 ∙ c.read_all-kept.auto.1.1.0 ∙ (to-begin (goal.at.shape_of-nexts-then-not-end c).After-read_all-kept).begin.auto.1.1.0
+shape_of-nexts-then-not-end g c = c.end.auto.1.1.0 ∙ c.read_all-kept.auto.1.1.0 ∙ (to-begin (goal.at.shape_of-nexts-then-not-end c).After-read_all-kept).begin.auto.1.1.0
 
 pub returns-then-not-end : goal.returns-then-not-end
-returns-then-not-end c = λ e. absurd (false≢true e)
+returns-then-not-end g c = λ e. absurd (false≢true e)
 
 pub shape_of-t : goal.shape_of-t
-shape_of-t c = c.end.auto.0 ∙ c.read_all-kept.auto.0 ∙ (to-begin (goal.at.shape_of-t c).After-read_all-kept).begin.auto.0
+shape_of-t g c = c.end.auto.0 ∙ c.read_all-kept.auto.0 ∙ (to-begin (goal.at.shape_of-t c).After-read_all-kept).begin.auto.0
 
 pub shape_of-heads : goal.shape_of-heads
-shape_of-heads c = c.end.auto.1.0 ∙ c.read_all-kept.auto.1.0 ∙ (to-begin (goal.at.shape_of-heads c).After-read_all-kept).begin.auto.1.0
+shape_of-heads g c = c.end.auto.1.0 ∙ c.read_all-kept.auto.1.0 ∙ (to-begin (goal.at.shape_of-heads c).After-read_all-kept).begin.auto.1.0
 
 pub shape_of-nexts : goal.shape_of-nexts
-shape_of-nexts c = c.end.auto.1.1.0 ∙ c.read_all-kept.auto.1.1.0 ∙ (to-begin (goal.at.shape_of-nexts c).After-read_all-kept).begin.auto.1.1.0
+shape_of-nexts g c = c.end.auto.1.1.0 ∙ c.read_all-kept.auto.1.1.0 ∙ (to-begin (goal.at.shape_of-nexts c).After-read_all-kept).begin.auto.1.1.0
 
 pub returns : goal.returns
-returns c =
+returns g c =
     let room = room_kept (c.read_all-kept.kept.0 ∙ c.begin.kept.0) c.read_all-kept.kept.1.1.1.1.1.0 c.pre.1.1.1 in
     λ _.
     all_printed c.args.t.now c.begin.ensures.t_after c.read_all-kept.ensures.reads

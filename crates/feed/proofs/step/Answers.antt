@@ -66,29 +66,29 @@ shape_of-out-then-out-wrote-lt-LONGEST c = same_long c.loop-used.invariant.0
 
 pub returns-then-out-wrote-lt-LONGEST : goal.returns-then-out-wrote-lt-LONGEST
 returns-then-out-wrote-lt-LONGEST c =
-    let inv = c.loop-used.inv in
-    record { fits = stops inv.0 c.cut-cut.result.end c.loop-used-test.taken c.cut-cut.ensures.ends c.if-chunk-end-ne-LF.false c.if-out-wrote-lt-LONGEST.true; t_after = inv.0.good; beside_2 = inv.1 }
+    let inv = c.loop-used.invariant in
+    record { fits = stops inv.0 c.cut-cut.result.end c.loop-used-test.true c.cut-cut.ensures.ends c.if-chunk-end-ne-LF.false c.if-out-wrote-lt-LONGEST.true; t_after = inv.0.good; beside_2 = inv.1 }
 
 pub slice_bounds-book_part-end : goal.slice_bounds-book_part-end
 slice_bounds-book_part-end c = search (rules, bounds (goal.at.slice_bounds-book_part-end c).After-cut-cut)
 
 pub book_part-said-requires : goal.book_part-said-requires
 book_part-said-requires c =
-    let inv = c.loop-used.inv in
+    let inv = c.loop-used.invariant in
     record { t_value = inv.0.good; beside = inv.1; hold_len = inv.0.long; held_le_hold_length = inv.0.few; longest_in_bounds = room_lent inv.0 c.if-out-wrote-lt-LONGEST.false; part_value = λ e. plain_lent _ _ _ c.cut-cut.ensures.ends (c.cut-cut.ensures.plain e) }
 
 pub overflow_add-wrote : goal.overflow_add-wrote
 overflow_add-wrote c =
-    search (rules, c.good, room_said c.loop-used.inv.0 c.if-out-wrote-lt-LONGEST.left _ c.book_part-said.ensures.wrote)
+    search (rules, c.well_formed, room_said c.loop-used.invariant.0 c.if-out-wrote-lt-LONGEST.false _ c.book_part-said.ensures.wrote)
 
 pub loop-used-smaller : goal.loop-used-smaller
-loop-used-smaller c = omega (arith, bounds (to-piece (goal.at.loop-used-smaller c).Else-chunk-end-ne-LF))
+loop-used-smaller c = omega (arith, bounds (goal.at.loop-used-smaller c).After-cut-cut)
 
 pub loop-used-preserved : goal.loop-used-preserved
 loop-used-preserved c =
     let said = c.book_part-said.ensures in
-    let inv = c.loop-used.inv in
-    (next_turn inv.0 c.cut-cut.result.end c.loop-used-test.taken c.cut-cut.ensures.ends c.if-chunk-end-ne-LF.left c.if-out-wrote-lt-LONGEST.left (said.wrote, said.t_after) said.hold_len_2 c.next_line-number.ensures, said.beside_2, search rules, search rules)
+    let inv = c.loop-used.invariant in
+    (next_turn inv.0 c.cut-cut.result.end c.loop-used-test.true c.cut-cut.ensures.ends c.if-chunk-end-ne-LF.false c.if-out-wrote-lt-LONGEST.false (said.wrote, said.t_after) said.hold_len_2 c.next_line-number.ensures, said.beside_2, search rules, search rules)
 
 pub shape_of-t : goal.shape_of-t
 shape_of-t c = c.loop-used.invariant.0.table

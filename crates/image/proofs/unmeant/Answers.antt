@@ -1,7 +1,5 @@
 -- `image::unmeant` meets its contract: one test after another, as in the definition.
-use mathlib.Core.Bool.{not}
-use mathlib.Core.Path.{sym, ◌∙◌, ap}
-use borrow.Author.Tests.{not-true, not-false}
+use mathlib.Core.Path.{sym, ◌∙◌}
 use Rattle.image.proofs.Odd.{no_type, odd_liquidity_lem, odd_price, odd_match, odd_cross, all_meant}
 use Rattle.image.proofs.unmeant.Goals as goal
 

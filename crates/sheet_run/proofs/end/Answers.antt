@@ -19,6 +19,6 @@ written_inside held l t before e h w =
     omega (arith, w.long, ap length w.out, length-sets before 0 (finished (between held l t)), finished_most held l t e)
 
 pub say-requires : goal.say-requires
-say-requires c =
+say-requires g c =
     let a = c.args in
     written_inside (held_in a.hold.now a.held) a.line a.t.now a.out.now (search rules) (search rules) c.finish-n.ensures.wrote

@@ -9,11 +9,11 @@ use Rattle.sheet_run.proofs.take.Given as goal
 
 -- the turn, the index beside the table, and the index's buffers of the same length
 abbrev pub invariant-loop-used : goal.invariant-loop-used
-invariant-loop-used l =
+invariant-loop-used g l =
     Turn (between (held_in l.initial.hold l.held) l.line l.initial.t) l.chunk l.initial.t l.initial.out l.t l.hold l.out l.used l.kept l.number
     × Beside l.t l.heads l.nexts
     × (length l.heads ≡ length l.initial.heads)
     × (length l.nexts ≡ length l.initial.nexts)
 
 abbrev pub decreases-loop-used : goal.decreases-loop-used
-decreases-loop-used l = length l.chunk - l.used
+decreases-loop-used g l = length l.chunk - l.used

@@ -4,7 +4,7 @@ use lib.ListN.{length}
 use Rattle.trial.proofs.cases.Given as goal
 
 abbrev pub invariant-loop-turns : goal.invariant-loop-turns
-invariant-loop-turns l = (length l.payload ≡ length l.initial.payload) × (length l.table ≡ length l.initial.table)
+invariant-loop-turns g l = (length l.payload ≡ length l.initial.payload) × (length l.table ≡ length l.initial.table)
 
 abbrev pub decreases-loop-turns : goal.decreases-loop-turns
-decreases-loop-turns l = l.turns
+decreases-loop-turns g l = l.turns

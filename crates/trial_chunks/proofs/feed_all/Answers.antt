@@ -7,7 +7,7 @@ use borrow.Author.Rules.{rules}
 use Rattle.trial_chunks.proofs.feed_all.Goals as goal
 
 pub feed_good-requires : goal.feed_good-requires
-feed_good-requires c =
+feed_good-requires g c =
     let table = c.table_buffer-table in
     let room = least_room table.result (sym table.ensures) in
     record { nonzero = room.0; in_bounds = (omega (arith, c.heads_buffer-heads.ensures), omega (arith, c.nexts_buffer-nexts.ensures, limit_is _ (sym table.ensures))); hold_len = search rules; t_in_bounds = omega (arith, room.1, c.output-out.ensures) }

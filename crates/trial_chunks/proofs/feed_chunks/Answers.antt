@@ -6,16 +6,16 @@ use borrow.Author.Rules.{rules}
 use Rattle.trial_chunks.proofs.feed_chunks.Goals as goal
 
 pub loop-at-init : goal.loop-at-init
-loop-at-init c =
+loop-at-init g c =
     let pre = c.requires in
     (omega arith, omega (arith, pre.in_bounds), omega arith, pre.t_value, refl, pre.hold_len, pre.longest_in_bounds, refl, pre.beside, refl, refl)
 
 pub take-kept-requires : goal.take-kept-requires
-take-kept-requires c = let inv = c.loop-at.invariant in
+take-kept-requires g c = let inv = c.loop-at.invariant in
     record { t_value = inv.3; beside = inv.8; hold_len = inv.5; held_le_hold_length = inv.2; longest_in_bounds = inv.6 }
 
 pub loop-at-preserved : goal.loop-at-preserved
-loop-at-preserved c =
+loop-at-preserved g c =
     let one = c.take-kept in
     let inv = c.loop-at.invariant in (
       search rules,
@@ -32,5 +32,5 @@ loop-at-preserved c =
     )
 
 pub returns : goal.returns
-returns c = let inv = c.loop-at.invariant in
+returns g c = let inv = c.loop-at.invariant in
     record { held_le_hold_length = (inv.2, inv.3, inv.5); beside_2 = inv.8 }

@@ -9,7 +9,7 @@ use Rattle.feed.specs.Steps.{hold_length, longest}
 use Rattle.trial_chunks.proofs.feed_chunks.Given as goal
 
 abbrev pub invariant-loop-at : goal.invariant-loop-at
-invariant-loop-at l =
+invariant-loop-at g l =
     (l.at ≤ length l.text) × (l.turn + l.turn + 2 ≤ length l.sizes) × (l.kept.held ≤ hold_length) × (sound l.t ≡ true) × (length l.t ≡ length l.initial.t)
     × (length l.hold ≡ hold_length)
     × (longest ≤ length l.out)
@@ -19,4 +19,4 @@ invariant-loop-at l =
     × (length l.nexts ≡ length l.initial.nexts)
 
 abbrev pub decreases-loop-at : goal.decreases-loop-at
-decreases-loop-at l = length l.text - l.at
+decreases-loop-at g l = length l.text - l.at
