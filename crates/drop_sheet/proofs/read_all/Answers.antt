@@ -1,6 +1,5 @@
 -- `drop_sheet::read_all` meets its contract: chunk after chunk, what is read is one text. The measure is the number of turns that are left.
-use mathlib.Core.Bool.{not}
-use mathlib.Core.Path.{refl, sym, ◌∙◌, ap}
+use mathlib.Core.Path.{refl, sym, ◌∙◌}
 use borrow.Author.Tests.{not-false}
 use Rattle.sheet_run.proofs.Leading.{nothing_read, more_read, goes_on, unread}
 use borrow.Author.Rules.{rules}

@@ -1,6 +1,6 @@
 -- `drop_sheet::run` meets its contract: from the empty table, over what is read, to the end.
-use mathlib.Core.Path.{◌∙◌, ap}
-use mathlib.Core.Bool.{false≢true, not}
+use mathlib.Core.Path.{◌∙◌}
+use mathlib.Core.Bool.{false≢true}
 use borrow.Author.Tests.{not-false}
 use Rattle.sheet_run.proofs.Leading.{room_kept, begun_sound, all_printed}
 use borrow.Author.Rules.{rules}

@@ -1,5 +1,4 @@
 -- `feed::book_last` meets its contract: nothing where nothing is held, else the piece that is held.
-use native.Mathlib.Omega.{arith}
 use Rattle.feed.proofs.Saying.{last_says}
 use borrow.Author.Rules.{rules}
 use Rattle.feed.proofs.book_last.Goals as goal

@@ -1,7 +1,6 @@
 -- `trial_chunks::feed_chunks` is safe and ends: no chunk is empty, and the sizes are taken from inside their bytes.
 use native.Mathlib.Omega.{arith}
 use mathlib.Core.Path.{refl, ◌∙◌}
-use Rattle.table.specs.Tables.{sound}
 use borrow.Author.Rules.{rules}
 use Rattle.trial_chunks.proofs.feed_chunks.Goals as goal
 
