@@ -22,7 +22,7 @@ use Rattle.day.specs.History.{History, is_new, is_execution, is_break, is_cancel
 use Rattle.day.specs.History.{executed_of, broken_of, open_of, lines_that_make, order_of, orders_of, known, line_that_made}
 use Rattle.day.specs.Quotes.{belongs, filled_of, has_row, quotes_of, quote_row_of}
 use Rattle.day.specs.Machine.{Found, nobody, found, find, differs, not_open, not_executed, Seen, none, seen, row_not_executed, row_full, checks, refusal_of}
-use Rattle.day.specs.Refusals.{subject, OfOrder, OfRow, OfNewRow, finds, DayOver, KnownKey, UnknownKey, OtherSeries, NotOpen, NotExecuted, Full, RowFull}
+use Rattle.day.specs.Refusals.{subject, OfOrder, finds, DayOver, KnownKey, UnknownKey, OtherSeries, NotOpen, NotExecuted, Full, RowFull}
 use Rattle.day.specs.Refusals.{Reads, Rule, rule, rules}
 use Rattle.day.proofs.Chain.{Judged, skipped, Says, test_of, answer_by, chain_judged, first_number}
 use Rattle.day.proofs.Legal.{Legal}

@@ -6,7 +6,7 @@ use mathlib.Core.Bool.{true}
 use mathlib.Core.List.{List}
 use lib.ListN.{length}
 use Rattle.order.specs.declared.Order.{Order}
-use Rattle.day.specs.Damage.{elders_of, earlier, unshared, undamaged}
+use Rattle.day.specs.Damage.{elders_of, earlier, undamaged}
 use Rattle.day.specs.Demand3.{table_after, Ancestor, elder, older, Descent}
 use Rattle.day.specs.Listing.{elder_at}
 use Rattle.day.specs.Machine.{book}

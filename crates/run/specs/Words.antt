@@ -1,5 +1,5 @@
 -- Bytes compared eight at a time: their number, and what is known once a run is compared so far.
-use Rattle.std.specs.Prelude.{ℕ, ◌+◌, ◌*◌, ◌^◌, ◌≡◌, Bool, ◌&&◌, List, length, get_or, drop}
+use Rattle.std.specs.Prelude.{ℕ, ◌+◌, ◌*◌, ◌≡◌, Bool, ◌&&◌, List, length, get_or, drop}
 use Rattle.run.specs.Runs.{part, same}
 
 -- the number of the four bytes from an offset on, little end first

@@ -13,7 +13,6 @@ use Rattle.run.proofs.Parts.{length_part, part_after, part_part}
 use Rattle.cell.specs.Cells.{le, le_bytes}
 use Rattle.cell.proofs.Laws.{le_read}
 use Rattle.order.specs.declared.Figures.{Figures}
-use Rattle.order.specs.declared.Order.{Order}
 use Rattle.day.specs.Machine.{with_figures, with_price}
 use Rattle.slot.specs.Slots.{slot_width, figures_bytes, figures_in, is_byte, key_bytes, order_in, series_bytes, series_in, slot_bytes, terms_bytes}
 use Rattle.slot.proofs.Runs.{Stored, number, then}

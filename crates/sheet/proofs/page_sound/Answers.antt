@@ -1,8 +1,6 @@
 -- `sheet::page_sound` meets its contract: the rows from the turn on are the page.
-use mathlib.Core.Bool.{not}
 use native.Mathlib.Omega.{arith}
-use mathlib.Core.Path.{◌≡◌, ap}
-use borrow.Author.Tests.{not-true, not-false}
+use mathlib.Core.Path.{◌≡◌}
 use lib.ListN.{length, length-replicate}
 use Rattle.table.proofs.Limits.{limit_most}
 use Rattle.table.proofs.Sound.{header_there, sound_apart}

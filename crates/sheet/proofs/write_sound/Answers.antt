@@ -1,8 +1,5 @@
 -- `sheet::write_sound` meets its contract: with room for heading, rows and quote section they are written, one behind the other; else nothing is.
-use mathlib.Core.Bool.{not}
-use mathlib.Core.Path.{ap}
 use native.Mathlib.Omega.{arith}
-use borrow.Author.Tests.{not-true, not-false}
 use lib.ListN.{length, length-replicate}
 use Rattle.table.proofs.Limits.{limit_most}
 use Rattle.table.proofs.Sound.{header_there, sound_apart}
@@ -39,7 +36,8 @@ returns-then-out-head c = neither_fits (measured (goal.at.returns-then-out-head 
 pub note_all-requires : goal.note_all-requires
 note_all-requires c =
     let m = measured (goal.at.note_all-requires c).After-length-below in
-    let s = c.args.t.now in let n = c.count-n.result in
+    let s = c.args.t.now in
+    let n = c.count-n.result in
     let few = (sound_apart s m.good).bytes.few in
     let most = limit_most (length s) in
     let slots = slots_inside s n m.good m.count in
@@ -49,52 +47,52 @@ pub start-first-requires : goal.start-first-requires
 start-first-requires c = c.note_all.ensures.slots
 
 pub rows_fit-requires : goal.rows_fit-requires
-rows_fit-requires c =
-    record { kin = c.note_all.ensures; stands_or_ends = c.start-first.ensures.stands_or_ends }
+rows_fit-requires c = record { kin = c.note_all.ensures; stands_or_ends = c.start-first.ensures.stands_or_ends }
 
 pub returns-then-not-rows_fit : goal.returns-then-not-rows_fit
 returns-then-not-rows_fit c =
     let x = c.start-first in
-    no_rows (measured (goal.at.returns-then-not-rows_fit c).After-length-below) (start (goal.at.returns-then-not-rows_fit c).After-length-below).args.out.now x.result x.ensures.result_value c.if-out-head.false c.rows_fit.result c.rows_fit.ensures
+    no_rows (measured (goal.at.returns-then-not-rows_fit c).After-length-below) c.args.out.now x.result x.ensures.result_value c.if-out-head.false c.rows_fit.result c.rows_fit.ensures
     c.if-not-rows_fit.true
 
 -- there is room for all of it
-room : (c : Else-not-rows_fit)
-    → AllFits (start ⟪After-length-below⟫).args.t.now (start ⟪After-length-below⟫).args.out.now c.count-n.result c.count_roots-families.result c.start-first.result
+room : (c : Else-not-rows_fit) → AllFits c.args.t.now c.args.out.now c.count-n.result c.count_roots-families.result c.start-first.result
 room c =
     let x = c.start-first in
-    all_fits (measured ⟪After-length-below⟫) (start ⟪After-length-below⟫).args.out.now x.result x.ensures.result_value c.if-out-head.false c.rows_fit.result c.rows_fit.ensures
+    all_fits
+    (record { good = c.requires; count = c.count-n.ensures; roots = c.count_roots-families.ensures; long = c.length-head.ensures; lines = c.length-below.ensures })
+    c.args.out.now x.result x.ensures.result_value c.if-out-head.false c.rows_fit.result c.rows_fit.ensures
     c.if-not-rows_fit.false
 
 pub rows-rows-requires : goal.rows-rows-requires
 rows-rows-requires c =
-    record { kin = c.note_all.ensures; stands_or_ends = c.start-first.ensures.stands_or_ends; first_in_bounds = rows_room (room (goal.at.rows-rows-requires c).Else-not-rows_fit) c.write-wrote.ensures }
+    record {
+      kin = c.note_all.ensures;
+      stands_or_ends = c.start-first.ensures.stands_or_ends;
+      first_in_bounds = rows_room (room (goal.at.rows-rows-requires c).Else-not-rows_fit) c.write-wrote.ensures;
+    }
 
 pub overflow_add-end : goal.overflow_add-end
 overflow_add-end c =
     let end = (families_inside (room (goal.at.overflow_add-end c).Else-not-rows_fit) c.write-wrote.ensures c.rows-rows.ensures).0 in
-    omega (arith, end, (start (goal.at.overflow_add-end c).After-length-below).well-formed)
+    omega (arith, end, c.well_formed)
 
 pub slice_bounds-write-count : goal.slice_bounds-write-count
 slice_bounds-write-count c = (families_inside (room (goal.at.slice_bounds-write-count c).Else-not-rows_fit) c.write-wrote.ensures c.rows-rows.ensures).1
 
 pub slice_bounds-write-start : goal.slice_bounds-write-start
-slice_bounds-write-start c = sub-write c
+slice_bounds-write-start c = slice_bounds-write-count c
 
 pub write-lines-requires : goal.write-lines-requires
 write-lines-requires c =
-    record { t_value = (start (goal.at.write-lines-requires c).After-length-below).requires; t_in_bounds = section_room (room (goal.at.write-lines-requires c).Else-not-rows_fit) c.write-wrote.ensures c.rows-rows.ensures }
+    record { t_value = c.requires; t_in_bounds = section_room (room (goal.at.write-lines-requires c).Else-not-rows_fit) c.write-wrote.ensures c.rows-rows.ensures }
 
 -- heading, rows and quote section are the sheet
 pub returns : goal.returns
-returns c =
-    sheet_written (room (goal.at.returns c).Else-not-rows_fit) c.write-wrote.ensures c.rows-rows.ensures c.write-lines.ensures
+returns c = sheet_written (room (goal.at.returns c).Else-not-rows_fit) c.write-wrote.ensures c.rows-rows.ensures c.write-lines.ensures
 
 pub overflow_add-result : goal.overflow_add-result
-overflow_add-result c = omega (arith, written_inside (sheet c), (start (goal.at.overflow_add-result c).After-length-below).well-formed)
+overflow_add-result c = omega (arith, written_inside (returns c), c.well_formed)
 
 pub shape_of-out : goal.shape_of-out
-shape_of-out c = written_kept (sheet c)
-
-pub returns : goal.returns
-returns c = sheet c
+shape_of-out c = written_kept (returns c)

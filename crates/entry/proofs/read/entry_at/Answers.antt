@@ -1,6 +1,5 @@
 -- `entry::read::entry_at` meets its contract.
-use mathlib.Core.Bool.{not}
-use mathlib.Core.Path.{refl, ap}
+use mathlib.Core.Path.{refl}
 use borrow.Author.Tests.{not-true, not-false}
 use lib.ListN.{length}
 use Rattle.entry.proofs.Entries.{no_entry, numbers_inside, entry_read}

@@ -1,9 +1,6 @@
 -- `entry::read::size_of` meets its contract.
-use mathlib.Core.Bool.{not}
-use mathlib.Core.Path.{ap}
 use Prim.Native.Nat.{◌≤◌}
 use native.Mathlib.Omega.{arith}
-use borrow.Author.Tests.{not-true, not-false}
 use Rattle.entry.proofs.Entries.{large, sized_by, parts_small}
 use Rattle.entry.proofs.read.size_of.Goals as goal
 use Rattle.entry.proofs.read.size_of.Goals.{Else-not-small}

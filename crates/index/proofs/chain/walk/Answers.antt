@@ -1,5 +1,5 @@
 -- `index::chain::walk` meets its contract: what is found so far, and the records up to the one it stands at, give the answer.
-use Rattle.std.proofs.Common.{◌-◌, ◌<◌, true, false, length, ⊎_elim, arith, rules}
+use Rattle.std.proofs.Common.{◌-◌, ◌<◌, true, false, length, arith, rules}
 use Rattle.index.proofs.Tagging.{bucket_under}
 use Rattle.index.proofs.Chains.{walk_first, walk_next, walk_falls, walk_end}
 use Rattle.index.proofs.chain.walk.Goals as goal

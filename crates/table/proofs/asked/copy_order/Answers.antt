@@ -1,7 +1,5 @@
 -- `table::asked::copy_order` meets its contract.
-use mathlib.Core.Bool.{not}
-use mathlib.Core.Path.{sym, subst, ◌∙◌, ap}
-use borrow.Author.Tests.{not-true, not-false}
+use mathlib.Core.Path.{sym, subst, ◌∙◌}
 use Rattle.section.specs.Sections.{Holds}
 use Rattle.slot.specs.Places.{slots}
 use Rattle.table.specs.Promises.{CopiesOf}

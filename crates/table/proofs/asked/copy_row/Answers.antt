@@ -1,7 +1,5 @@
 -- `table::asked::copy_row` meets its contract.
-use mathlib.Core.Bool.{not}
-use mathlib.Core.Path.{sym, ◌∙◌, ap}
-use borrow.Author.Tests.{not-true, not-false}
+use mathlib.Core.Path.{sym, ◌∙◌}
 use Rattle.section.specs.Sections.{Holds}
 use Rattle.quote_slot.specs.QuoteSlots.{rows}
 use Rattle.table.specs.Promises.{CopiesOf}

@@ -1,8 +1,6 @@
 -- `table::asked::look_up` meets its contract.
-use mathlib.Core.Bool.{not}
-use mathlib.Core.Path.{sym, ◌∙◌, ap}
+use mathlib.Core.Path.{sym, ◌∙◌}
 use native.Mathlib.Omega.{arith}
-use borrow.Author.Tests.{not-true, not-false}
 use borrow.Author.Rules.{rules}
 use Rattle.table.proofs.Asking.{unsearched, no_key, found_at, found_nowhere}
 use Rattle.slot.proofs.Lookups.{place_is}
