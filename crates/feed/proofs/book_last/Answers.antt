@@ -6,7 +6,7 @@ use Rattle.feed.proofs.book_last.Goals as goal
 
 pub book_held-requires : goal.book_held-requires
 book_held-requires c = let pre = c.requires in
-    record { t_value = pre.t_value; beside = pre.beside; held_in_bounds = omega (arith, (pre.hold_len, (pre.held_le_hold_length, pre.longest_in_bounds))); longest_in_bounds = search rules }
+    record { t_value = pre.t_value; beside = pre.beside; held_in_bounds = omega (arith, pre.hold_len, pre.held_le_hold_length); longest_in_bounds = search rules }
 
 pub returns : goal.returns
 returns c =

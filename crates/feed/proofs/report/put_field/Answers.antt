@@ -1,8 +1,6 @@
 -- `feed::report::put_field` meets its contract: only a 3 has a field.
 use native.Mathlib.Omega.{arith}
-use Prim.Native.Nat.{ℕ}
-use mathlib.Core.List.{List, [], ◌∷◌}
-use types.Run.{miss}
+use borrow.Author.Rules.{rules}
 use Rattle.row.proofs.Decimals.{decimal_length}
 use Rattle.feed.proofs.Reporting.{other_put, field_put}
 use Rattle.feed.proofs.report.put_field.Goals as goal
@@ -10,11 +8,10 @@ use Rattle.feed.proofs.report.put_field.Goals as goal
 pub returns-in_default : goal.returns-in_default
 returns-in_default c =
     let a = c.args in
-    let others : List ℕ = 0 ∷ 1 ∷ 3 ∷ 4 ∷ 5 ∷ 6 ∷ 7 ∷ 8 ∷ 9 ∷ 10 ∷ 11 ∷ 12 ∷ [] in
-    other_put a.x a.at a.out.now (λ f e. miss others 2 tt (rw e at c.in_default.keys2))
+    other_put a.x a.at a.out.now c.in_default.not-Field
 
 pub put_number-requires : goal.put_number-requires
-put_number-requires c = omega (arith, decimal_length c.in-Field.f 3 (omega arith) (omega (arith, c.known_told-1.given)))
+put_number-requires c = omega (arith, decimal_length c.in-Field.f 3 (omega arith) (search rules))
 
 pub returns : goal.returns
 returns c =
