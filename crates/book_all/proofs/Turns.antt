@@ -18,7 +18,7 @@ use Rattle.book.specs.Promises.{booking_of, Books}
 use Rattle.book.specs.declared.Booking.{Booking}
 use Rattle.book.proofs.Lengths.{booked_length}
 use Rattle.book.proofs.Machine.{booked_sound}
-use Rattle.piece.specs.Pieces.{pieces, piece_length}
+use Rattle.piece.specs.Pieces.{piece_length}
 use Rattle.piece.proofs.Lent.{part, piece_bounds, part_long, next_piece}
 use Rattle.book_all.specs.InTurn.{answers_to, table_after, first_pieces, bytes_of}
 use Rattle.book_all.specs.Promises.{BooksAll}

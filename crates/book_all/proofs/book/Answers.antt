@@ -1,8 +1,6 @@
 -- `book_all::book` meets its contract.
-use mathlib.Core.Bool.{not}
 use native.Mathlib.Omega.{arith}
-use mathlib.Core.Path.{sym, ◌∙◌, ap}
-use borrow.Author.Tests.{not-true, not-false}
+use mathlib.Core.Path.{sym, ◌∙◌}
 use lib.ListN.{length}
 use Rattle.table.proofs.Limits.{limit_most}
 use Rattle.book_all.proofs.Damaged.{damaged}

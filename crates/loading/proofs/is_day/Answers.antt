@@ -1,6 +1,5 @@
 -- `loading::is_day` meets its contract.
-use mathlib.Core.Bool.{not}
-use mathlib.Core.Path.{sym, ◌∙◌, ap}
+use mathlib.Core.Path.{sym, ◌∙◌}
 use borrow.Author.Tests.{not-true, not-false}
 use Rattle.loading.proofs.Whole.{front_inside, orders_few, rows_few, no_orders, orders_to, orders_inside, no_rows, all_read}
 use Rattle.loading.proofs.is_day.Goals as goal

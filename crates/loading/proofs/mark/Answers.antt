@@ -1,7 +1,4 @@
 -- `loading::mark` meets its contract.
-use mathlib.Core.Bool.{not}
-use mathlib.Core.Path.{ap}
-use borrow.Author.Tests.{not-true, not-false}
 use Rattle.loading.proofs.DayStored.{unmarked, marked_now}
 use Rattle.loading.proofs.mark.Goals as goal
 

@@ -1,7 +1,6 @@
 -- `row::unpadded` meets its contract: nothing but padding stands behind the first n bytes, and the last of them is none.
 use mathlib.Core.Path.{sym, ap}
 use borrow.Author.Rules.{rules}
-use borrow.Author.Tests.{eqb-true, eqb-false}
 use lib.Seq.{take-length}
 use Rattle.row.specs.Texts.{trimmed}
 use Rattle.row.proofs.Trimming.{padding_next, padding_all, padding_end}

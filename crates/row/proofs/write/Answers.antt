@@ -1,6 +1,5 @@
 -- `row::write` meets its contract: three texts, one right behind the other, from the parts of the table that are lent.
 use native.Mathlib.Omega.{arith}
-use mathlib.Core.Path.{◌∙◌}
 use Rattle.slot.specs.Slots.{order_in}
 use Rattle.slot.specs.Places.{slot}
 use Rattle.row.proofs.Lent.{figures_room, names_room, row_wrote}

@@ -1,8 +1,7 @@
 -- `book::fills::plan_fill` meets its contract: no quote is named, or the plan is by the row of the quote.
 use Prim.Native.Nat.{◌+◌}
 use mathlib.Core.Path.{◌≡◌, refl, sym, ap, ◌∙◌}
-use mathlib.Core.Bool.{true, ◌&&◌, not}
-use borrow.Author.Tests.{not-true, not-false}
+use mathlib.Core.Bool.{true, ◌&&◌}
 use Rattle.run.proofs.Tests.{both}
 use Rattle.quote.specs.Quotes.{names_quote, quote_of}
 use Rattle.quote.specs.Rows.{row_place}

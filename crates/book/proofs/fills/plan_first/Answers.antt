@@ -1,7 +1,5 @@
 -- `book::fills::plan_first` meets its contract.
-use mathlib.Core.Bool.{not}
-use mathlib.Core.Path.{sym, ◌∙◌, ap}
-use borrow.Author.Tests.{not-true, not-false}
+use mathlib.Core.Path.{sym, ◌∙◌}
 use Rattle.book.proofs.Judged.{by_full, by_room}
 use borrow.Author.Rules.{rules}
 use Rattle.book.proofs.fills.plan_first.Goals as goal

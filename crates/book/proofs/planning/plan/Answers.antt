@@ -1,7 +1,6 @@
 -- `book::planning::plan` meets its contract.
-use mathlib.Core.Path.{◌≡◌, sym, ◌∙◌, ap}
-use mathlib.Core.Bool.{false, ◌&&◌, not}
-use borrow.Author.Tests.{not-true, not-false}
+use mathlib.Core.Path.{◌≡◌, sym, ◌∙◌}
+use mathlib.Core.Bool.{false, ◌&&◌}
 use Rattle.order.specs.Names.{key_of}
 use Rattle.day.specs.History.{is_maker}
 use Rattle.day.specs.Machine.{find, is_found}

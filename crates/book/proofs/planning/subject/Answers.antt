@@ -1,7 +1,5 @@
 -- `book::planning::subject` meets its contract.
-use mathlib.Core.Bool.{not}
 use mathlib.Core.Path.{sym, ap, ◌∙◌}
-use borrow.Author.Tests.{not-true, not-false}
 use Rattle.order.specs.declared.Key.{Key}
 use Rattle.day.specs.Machine.{place}
 use Rattle.table.specs.Tables.{table_in}

@@ -1,7 +1,6 @@
 -- `book::store::book` meets its contract.
-use mathlib.Core.Bool.{true≢false, not}
-use mathlib.Core.Path.{refl, sym, ◌∙◌, ap}
-use borrow.Author.Tests.{not-true, not-false}
+use mathlib.Core.Bool.{true≢false}
+use mathlib.Core.Path.{refl, sym, ◌∙◌}
 use Rattle.lookup.proofs.Beside.{none_beside}
 use Rattle.book.proofs.Booked.{damaged}
 use Rattle.book.proofs.store.book.Goals as goal

@@ -1,6 +1,5 @@
 -- `row::quotes::put_line` meets its contract: behind the fills one more column, and an LF.
 use Prim.Native.Nat.{◌+◌, ◌^◌, ◌≤◌, ◌<◌}
-use mathlib.Core.Path.{◌≡◌, ◌∙◌}
 use native.Mathlib.Omega.{arith}
 use lib.ListN.{length}
 use Rattle.row.proofs.Puts.{line_put, line_length}
