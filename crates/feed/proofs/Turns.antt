@@ -18,7 +18,7 @@ use Rattle.sheet.proofs.Joining.{lent, back, one_text}
 use Rattle.piece.specs.Pieces.{pieces, piece_length}
 use Rattle.piece.proofs.Lent.{part, piece_bounds, part_long, next_piece}
 use Rattle.feed.specs.Printed.{report}
-use Rattle.feed.specs.Steps.{Between, between, hold_length, kept_of, longest, next_line, ends_in_lF, Step, step, after, step_over, step_from, held_in, Fits}
+use Rattle.feed.specs.Steps.{Between, between, hold_length, kept_of, longest, next_line, ends_in_lf, Step, step, after, step_over, step_from, held_in, Fits}
 use Rattle.feed.proofs.Endings.{part_ends}
 use Rattle.feed.proofs.Longest.{said_most}
 use Rattle.feed.proofs.Saying.{Says}
@@ -70,7 +70,7 @@ first_turn chunk t hold out held line good long few =
 -- ---- the next piece of the chunk
 
 module _ (chunk : List ℕ) (used end : ℕ) (more : used < length chunk) (e : end ≡ used + piece_length (drop used chunk)) where
-  ends_so : ends_in_lF (part chunk used end) ≡ eqb (get_or chunk (end - 1) 0) 10
+  ends_so : ends_in_lf (part chunk used end) ≡ eqb (get_or chunk (end - 1) 0) 10
   ends_so = let b = piece_bounds chunk used end more e in part_ends chunk used end b.0 b.1
 
 -- ---- what the code answers

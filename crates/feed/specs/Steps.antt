@@ -31,10 +31,10 @@ room_at_end limit = longest + longest_sheet limit
 abbrev pub next_line : ℕ → ℕ
 next_line l = cond (ltb l (2 ^ 64 - 1)) (l + 1) l
 
-abbrev pub ends_in_lF : List ℕ → Bool
-ends_in_lF [] = false
-ends_in_lF (b ∷ []) = eqb b 10
-ends_in_lF (b ∷ c ∷ s) = ends_in_lF (c ∷ s)
+abbrev pub ends_in_lf : List ℕ → Bool
+ends_in_lf [] = false
+ends_in_lf (b ∷ []) = eqb b 10
+ends_in_lf (b ∷ c ∷ s) = ends_in_lf (c ∷ s)
 
 -- how much of a chunk was used, what was written, and what is kept
 pub data Step : Type 0 where
@@ -58,7 +58,7 @@ abbrev pub step_over : ℕ → List ℕ → ℕ → List ℕ → List (List ℕ)
 step_over room held line table [] = step 0 [] (between held line table)
 step_over room held line table (p ∷ ps) =
     let said = report line (book_answer table (held ++ p)) in
-    cond (ends_in_lF p)
+    cond (ends_in_lf p)
     (cond (ltb room longest) (step 0 [] (between held line table))
     (after (length p) said (step_over (room - length said) [] (next_line line) (book_bytes table (held ++ p)) ps)))
     (step (length p) [] (between (kept_of (held ++ p)) line table))
