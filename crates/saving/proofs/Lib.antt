@@ -6,3 +6,5 @@ pub mod Bounds
 pub mod Steps
 -- How long a saved day can be
 pub mod Longest
+-- Each answer of saving keeps its promise
+pub mod Answering

@@ -5,10 +5,32 @@ ghost use Rattle.std.specs.Prelude.{◌+◌, ◌≤◌, ◌<◌, ◌≡◌, true
 ghost use Rattle.groups.specs.Groups.{Puts};
 ghost use Rattle.saved.specs.Days.{mark_of, saved_day};
 ghost use Rattle.table.specs.Tables.{count_in, row_count_in, sound, table_in};
+ghost use Rattle.saving.specs.Promises.{Saves};
 ghost use Rattle.saving.specs.Saving.{entry_no, front_of};
 
 use entry::ORDER;
-use table::header;
+use refusal::Refusal;
+use table::{damage, header};
+
+// The answer: how many bytes were written.
+#[derive(Clone, Copy)]
+pub enum Saved {
+    Done(usize),
+    Refused(Refusal),
+}
+
+// Any bytes for a table, any buffer. On a refusal not one byte is changed.
+pub fn save(t: &[u8], out: &mut [u8]) -> Saved
+    ensures { Saves t.now out.old result out.new }
+{
+    if !damage::is_sound(t) {
+        return Saved::Refused(Refusal::Damaged);
+    }
+    if !fits(t, out.len()) {
+        return Saved::Refused(Refusal::NoRoom);
+    }
+    Saved::Done(put_day(t, out))
+}
 
 // The mark of the day's end, as a number.
 fn mark(over: bool) -> u64

@@ -1,7 +1,7 @@
 -- What saving the day promises.
 use Rattle.std.specs.Prelude.{ℕ, ◌≡◌, cond, List}
 use Rattle.refusal.specs.Answer.{Answer, value, refused, refused_by}
-use Rattle.refusal.specs.Texts.{text_answer, text_from}
+use Rattle.saving.specs.Texts.{text_answer, text_from}
 use Rattle.saved.specs.Days.{saved_day}
 use Rattle.table.specs.Tables.{table_in, sound}
 use Rattle.saving.specs.declared.Saved.{Saved}
