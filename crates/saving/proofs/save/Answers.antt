@@ -1,6 +1,5 @@
 -- `saving::save` meets its contract: a damaged table first, then the room, then the bytes.
-use Rattle.std.proofs.Common.{◌≡◌, true, sym, ◌∙◌}
-use Rattle.table.specs.Tables.{sound}
+use Rattle.std.proofs.Common.{sym, ◌∙◌}
 use Rattle.saving.proofs.Answering.{damaged, no_room, done}
 use Rattle.saving.proofs.save.Goals as goal
 
