@@ -62,18 +62,7 @@ pub fn field(r: Refusal) -> u8
 {
     match r {
         Refusal::Field(n) => n,
-        Refusal::NoLine => 0,
-        Refusal::BadByte => 0,
-        Refusal::NoRoom => 0,
-        Refusal::Damaged => 0,
-        Refusal::DayOver => 0,
-        Refusal::KnownKey => 0,
-        Refusal::UnknownKey => 0,
-        Refusal::OtherSeries => 0,
-        Refusal::NotOpen => 0,
-        Refusal::NotExecuted => 0,
-        Refusal::Full => 0,
-        Refusal::RowFull => 0,
+        _ => 0,
     }
 }
 
