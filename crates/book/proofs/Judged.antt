@@ -7,6 +7,7 @@ use mathlib.Core.Bool.{Bool, true, false, not, ◌&&◌, or-false, and-true, and
 use mathlib.Core.List.{List}
 use borrow.Author.Tests.{ltb-false, lt-ltb, le-ltb, lt-leb, le-leb, ne_eqb}
 use lib.Dec.{eqb}
+use Rattle.std.specs.Prelude.{Ok, Err}
 use Rattle.refusal.specs.declared.Refusal.TheVariants.{OtherSeries, NotOpen, NotExecuted, Full, RowFull}
 use Rattle.layout.specs.declared.Event.TheVariants.{Executed, Cancelled, Broken}
 use Rattle.layout.specs.declared.Record.{Record}
@@ -27,7 +28,7 @@ use Rattle.slot.specs.declared.Place.{Place}
 use Rattle.slot.specs.declared.Place.TheVariants.{At, Nobody}
 use Rattle.slot.proofs.Lookups.{at_found, nobody_found}
 use Rattle.book.specs.Plans.{order_with, plan_by, plan_about, plan_row}
-use Rattle.book.specs.declared.Plan.TheVariants.{No, NewRow, Sums}
+use Rattle.book.specs.declared.Plan.TheVariants.{NewRow, Sums}
 
 -- ---- whether a key is taken
 
@@ -68,47 +69,47 @@ module _ (i : ℕ) (o : Order) (r : Record) (full : Bool) where
   pub by_asked : (a : Asked) → a ≡ asked_of o → plan_about i (order_with a) r full ≡ plan_about i o r full
   by_asked a e = rw e
 
-  pub by_series : differs r (found o) ≡ true → No OtherSeries ≡ plan_about i o r full
+  pub by_series : differs r (found o) ≡ true → Err OtherSeries ≡ plan_about i o r full
   by_series d = rw d
 
   module _ (d : differs r (found o) ≡ false) where
-    pub by_open : not_open r (found o) ≡ true → No NotOpen ≡ plan_about i o r full
+    pub by_open : not_open r (found o) ≡ true → Err NotOpen ≡ plan_about i o r full
     by_open p = rw (d, p)
 
     module _ (p : not_open r (found o) ≡ false) where
-      pub by_executed : not_executed r (found o) ≡ true → No NotExecuted ≡ plan_about i o r full
+      pub by_executed : not_executed r (found o) ≡ true → Err NotExecuted ≡ plan_about i o r full
       by_executed x = rw (d, p, x)
 
       module _ (x : not_executed r (found o) ≡ false) (maker : Bool) (e : maker ≡ is_maker r.event) where
-        pub by_limit : (maker && full) ≡ true → No Full ≡ plan_about i o r full
+        pub by_limit : (maker && full) ≡ true → Err Full ≡ plan_about i o r full
         by_limit y = rw (d, p, x, ← e, y)
 
-        pub by_event : (maker && full) ≡ false → plan_by r.event i o.figures r ≡ plan_about i o r full
+        pub by_event : (maker && full) ≡ false → Ok (plan_by r.event i o.figures r) ≡ plan_about i o r full
         by_event y = rw (d, p, x, ← e, y)
 
 -- ---- 02, 1: of a line about a quote row
 
 module _ (n : ℕ) (r : Record) (e : is_execution r.event ≡ true) (most : ℕ) (q : most ≡ most_rows) where
-  pub by_full : most ≤ n → No RowFull ≡ plan_row n 0 unseen r
+  pub by_full : most ≤ n → Err RowFull ≡ plan_row n 0 unseen r
   by_full h = rw (e, le-leb most_rows n (rw q at h))
 
-  pub by_room : n < most → NewRow ≡ plan_row n 0 unseen r
+  pub by_room : n < most → Ok NewRow ≡ plan_row n 0 unseen r
   by_room h = rw (e, lt-leb most_rows n (rw q at h))
 
 module _ (i : ℕ) (w : QuoteRow) (r : Record) where
   module _ (most : w.executed ≤ most_executed) (e : is_execution r.event ≡ true) where
-    pub by_most : most_executed - w.executed < r.contracts → No RowFull ≡ plan_row 0 i (seen w) r
+    pub by_most : most_executed - w.executed < r.contracts → Err RowFull ≡ plan_row 0 i (seen w) r
     by_most h = rw (execution_unbroken r.event e, e, lt-ltb most_executed (w.executed + r.contracts) (omega arith))
 
-    pub by_execution : r.contracts ≤ most_executed - w.executed → Sums i (w.executed + r.contracts) w.broken ≡ plan_row 0 i (seen w) r
+    pub by_execution : r.contracts ≤ most_executed - w.executed → Ok (Sums i (w.executed + r.contracts) w.broken) ≡ plan_row 0 i (seen w) r
     by_execution h = rw (execution_unbroken r.event e, e, le-ltb most_executed (w.executed + r.contracts) (omega arith))
 
   module _ (f : is_fill r.event ≡ true) (e : is_execution r.event ≡ false) where
     broken : is_break r.event ≡ true
     broken = rw e at f
 
-    pub by_unbroken : w.executed - w.broken < r.contracts → No NotExecuted ≡ plan_row 0 i (seen w) r
+    pub by_unbroken : w.executed - w.broken < r.contracts → Err NotExecuted ≡ plan_row 0 i (seen w) r
     by_unbroken h = rw (broken, lt-ltb (w.executed - w.broken) r.contracts h)
 
-    pub by_break : r.contracts ≤ w.executed - w.broken → Sums i w.executed (w.broken + r.contracts) ≡ plan_row 0 i (seen w) r
+    pub by_break : r.contracts ≤ w.executed - w.broken → Ok (Sums i w.executed (w.broken + r.contracts)) ≡ plan_row 0 i (seen w) r
     by_break h = rw (broken, le-ltb (w.executed - w.broken) r.contracts h, e)

@@ -26,7 +26,7 @@ fn is_of_quote(r: Record) -> bool
     conditions::is_fill(event) & quote::names_quote(&token)
 }
 
-pub fn plan_fill(t: &[u8], r: Record) -> Plan
+pub fn plan_fill(t: &[u8], r: Record) -> Result<Plan, Refusal>
     requires t_value { sound t.now ≡ true }
     requires lawful_record { LawfulRecord r }
     requires t_value_2 { (table_in t.now).over ≡ false }
@@ -36,7 +36,7 @@ pub fn plan_fill(t: &[u8], r: Record) -> Plan
     ensures { Plans t.now r result }
 {
     if !is_of_quote(r) {
-        return Plan::No(Refusal::UnknownKey);
+        return Err(Refusal::UnknownKey);
     }
     let Place::At(i) = table::find_row(t, quote::quote_of(r)) else {
         return plan_first(header::row_count(t), r);
@@ -45,21 +45,21 @@ pub fn plan_fill(t: &[u8], r: Record) -> Plan
 }
 
 // Of a line whose quote has no row yet: the first E makes it, where there are not all already.
-fn plan_first(n: usize, r: Record) -> Plan
+fn plan_first(n: usize, r: Record) -> Result<Plan, Refusal>
     ensures { result ≡ plan_row n 0 none r }
 {
     let event = r.event;
     if !conditions::is_execution(event) {
-        return Plan::No(Refusal::UnknownKey);
+        return Err(Refusal::UnknownKey);
     }
     if quote::most_rows() <= n {
-        return Plan::No(Refusal::RowFull);
+        return Err(Refusal::RowFull);
     }
-    Plan::NewRow
+    Ok(Plan::NewRow)
 }
 
 // Of a line about the quote row w at place i. What is left of the greatest executed is asked, so that there is no sum to grow.
-fn plan_row(i: usize, w: QuoteRow, r: Record) -> Plan
+fn plan_row(i: usize, w: QuoteRow, r: Record) -> Result<Plan, Refusal>
     requires executed_le_most_executed { w.executed ≤ most_executed }
     requires broken_le_executed { w.broken ≤ w.executed }
     requires event_value { is_fill r.event ≡ true }
@@ -69,12 +69,12 @@ fn plan_row(i: usize, w: QuoteRow, r: Record) -> Plan
     let event = r.event;
     if conditions::is_execution(event) {
         if MOST_EXECUTED - w.executed < n {
-            return Plan::No(Refusal::RowFull);
+            return Err(Refusal::RowFull);
         }
-        return Plan::Sums(i, w.executed + n, w.broken);
+        return Ok(Plan::Sums(i, w.executed + n, w.broken));
     }
     if w.executed - w.broken < n {
-        return Plan::No(Refusal::NotExecuted);
+        return Err(Refusal::NotExecuted);
     }
-    Plan::Sums(i, w.executed, w.broken + n)
+    Ok(Plan::Sums(i, w.executed, w.broken + n))
 }

@@ -34,7 +34,7 @@ pub fn own(t: &[u8], heads: &[u16], nexts: &[u16], piece: &[u8]) -> Place
 }
 
 // 6 and 7 first, as 01 has them. Of an A only 12 is left then; any other line is about an order of the table, or about a quote row.
-pub fn plan(t: &[u8], heads: &[u16], nexts: &[u16], own: Place, r: Record) -> Plan
+pub fn plan(t: &[u8], heads: &[u16], nexts: &[u16], own: Place, r: Record) -> Result<Plan, Refusal>
     requires t_value { sound t.now ≡ true }
     requires beside { Beside t.now heads.now nexts.now }
     requires own_value { place_no own ≡ place (key_of r) (table_in t.now).orders }
@@ -42,19 +42,19 @@ pub fn plan(t: &[u8], heads: &[u16], nexts: &[u16], own: Place, r: Record) -> Pl
     ensures { Plans t.now r result }
 {
     if header::is_over(t) {
-        return Plan::No(Refusal::DayOver);
+        return Err(Refusal::DayOver);
     }
     let event = r.event;
     if is_taken(event, own) {
-        return Plan::No(Refusal::KnownKey);
+        return Err(Refusal::KnownKey);
     }
     if !conditions::is_new(event) {
         return plan_older(t, heads, nexts, r, own);
     }
     if is_full(t) {
-        return Plan::No(Refusal::Full);
+        return Err(Refusal::Full);
     }
-    Plan::New
+    Ok(Plan::New)
 }
 
 // Whether a line would make an order with a key that is in the table, by what the lookup of its key answered.
@@ -89,7 +89,7 @@ fn subject(t: &[u8], heads: &[u16], nexts: &[u16], r: Record, own: Place) -> Pla
 }
 
 // A line about an order of the table, or about a quote row.
-fn plan_older(t: &[u8], heads: &[u16], nexts: &[u16], r: Record, own: Place) -> Plan
+fn plan_older(t: &[u8], heads: &[u16], nexts: &[u16], r: Record, own: Place) -> Result<Plan, Refusal>
     requires t_value { sound t.now ≡ true }
     requires beside { Beside t.now heads.now nexts.now }
     requires own_value { place_no own ≡ place (key_of r) (table_in t.now).orders }
@@ -106,24 +106,24 @@ fn plan_older(t: &[u8], heads: &[u16], nexts: &[u16], r: Record, own: Place) -> 
 }
 
 // Of a line about the order at place i, a being what is asked of it: the first of refusals 9 to 12 that applies, or what is to be stored.
-fn plan_about(i: usize, a: Asked, r: Record, full: bool) -> Plan
+fn plan_about(i: usize, a: Asked, r: Record, full: bool) -> Result<Plan, Refusal>
     requires { Sound a.figures }
     ensures { result ≡ plan_about i (order_with a) r full }
 {
     if conditions::differs(a, r) {
-        return Plan::No(Refusal::OtherSeries);
+        return Err(Refusal::OtherSeries);
     }
     if conditions::not_open(a, r) {
-        return Plan::No(Refusal::NotOpen);
+        return Err(Refusal::NotOpen);
     }
     if conditions::not_executed(a, r) {
-        return Plan::No(Refusal::NotExecuted);
+        return Err(Refusal::NotExecuted);
     }
     let event = r.event;
     if conditions::is_maker(event) & full {
-        return Plan::No(Refusal::Full);
+        return Err(Refusal::Full);
     }
-    plan_by(i, a, r)
+    Ok(plan_by(i, a, r))
 }
 
 // What no condition refused. An A never comes here; a match has all its cases.

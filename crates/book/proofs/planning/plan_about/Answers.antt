@@ -1,7 +1,8 @@
 -- `book::planning::plan_about` meets its contract: the first condition that applies decides.
-use mathlib.Core.Path.{◌≡◌, sym, ◌∙◌}
+use mathlib.Core.Path.{◌≡◌, sym, ap, ◌∙◌}
 use mathlib.Core.Bool.{false}
 use borrow.Author.Rules.{rules}
+use Rattle.std.specs.Prelude.{Ok}
 use Rattle.day.specs.Machine.{found, differs, not_open, not_executed}
 use Rattle.book.specs.Plans.{order_with}
 use Rattle.book.proofs.Judged.{by_series, by_open, by_executed, by_limit, by_event}
@@ -43,5 +44,5 @@ plan_by-requires c =
 pub returns : goal.returns
 returns c =
     let a = c.args in
-    c.plan_by.ensures
+    ap Ok c.plan_by.ensures
     ∙ by_event a.i (order_with a.a) a.r a.full (alike (goal.at.returns c).Else-differs) (is_open (goal.at.returns c).Else-not_open) (is-executed (goal.at.returns c).Else-not_executed) _ c.is_maker.ensures c.if-is_maker-full.false
