@@ -5,7 +5,9 @@ use mathlib.Core.Path.{◌≡◌, refl, sym, ap, subst, ◌∙◌}
 use mathlib.Core.Bool.{true}
 use mathlib.Core.List.{List, [], ◌∷◌}
 use lib.ListN.{length, get_or, take, replicate, length-replicate}
-use Rattle.refusal.specs.Answer.{code_of}
+use Rattle.std.specs.Prelude.{Result}
+use Rattle.refusal.specs.Answer.{answer_of, code_of}
+use Rattle.refusal.specs.declared.Refusal.{Refusal}
 use Rattle.layout.specs.Line.{read}
 use Rattle.layout.proofs.Forms.{no_value}
 use Rattle.table.specs.Tables.{least_limit, sound}
@@ -15,9 +17,8 @@ use Rattle.book.proofs.Reached.{Reached, reached_answer, reached_bytes}
 use Rattle.run.proofs.Stores.{sets_whole}
 use Rattle.piece.specs.Pieces.{pieces}
 use Rattle.book_all.specs.InTurn.{answers_to, first_pieces}
-use Rattle.book_all.specs.Promises.{booked_all_of}
 use Rattle.book_all.specs.Wrong.{Keeps, LeavesOut, JudgesByFirst, TakesDamaged}
-use Rattle.book_all.specs.declared.BookedAll.{BookedAll}
+use Rattle.book_all.specs.declared.Used.{Used}
 use Rattle.book_all.proofs.Given.{answers_long}
 
 -- ---- answers for all pieces
@@ -55,7 +56,7 @@ second_end = ap code_of (reached_answer (reached (end ∷ [])) end)
 
 -- ---- what keeps the promise is none of these
 
-module _ {book_all : List ℕ → List ℕ → List ℕ → BookedAll × List ℕ × List ℕ} (keeps : Keeps book_all) where
+module _ {book_all : List ℕ → List ℕ → List ℕ → Result Used Refusal × List ℕ × List ℕ} (keeps : Keeps book_all) where
   -- with room for all, the answers are those to the pieces one after another
   given_all : (table text answers : List ℕ) → sound table ≡ true → length answers ≡ length (pieces text)
       → (book_all table text answers).2 ≡ answers_to table (pieces text)
@@ -82,4 +83,4 @@ module _ {book_all : List ℕ → List ℕ → List ℕ → BookedAll × List �
 
   pub takes_damaged : TakesDamaged book_all → ⊥
   takes_damaged (table, text, answers, u, damaged, e) =
-      no_value (sym (rw damaged at (sym (ap booked_all_of e) ∙ (keeps table text answers).said)))
+      no_value (sym (rw damaged at (sym (ap answer_of e) ∙ (keeps table text answers).said)))

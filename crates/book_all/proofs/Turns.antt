@@ -11,18 +11,17 @@ use lib.Dec.{ltb}
 use lib.ListN.{length, take, drop, set, length-set, drop_of_length-le}
 use lib.Seq.{sets}
 use Rattle.run.proofs.Tests.{both}
-use Rattle.refusal.specs.Answer.{value, code_of}
+use Rattle.std.specs.Prelude.{Result, Ok}
+use Rattle.refusal.specs.Answer.{value, answer_of, code_of}
+use Rattle.refusal.specs.declared.Refusal.{Refusal}
 use Rattle.table.specs.Tables.{sound}
 use Rattle.book.specs.Bytes.{book_answer}
-use Rattle.book.specs.Promises.{booking_of, Books}
-use Rattle.book.specs.declared.Booking.{Booking}
-use Rattle.book.proofs.Lengths.{booked_length}
+use Rattle.book.specs.Promises.{Books}
 use Rattle.book.proofs.Machine.{booked_sound}
 use Rattle.piece.specs.Pieces.{piece_length}
 use Rattle.piece.proofs.Lent.{part, piece_bounds, part_long, next_piece}
 use Rattle.book_all.specs.InTurn.{answers_to, table_after, first_pieces, bytes_of}
 use Rattle.book_all.specs.Promises.{BooksAll}
-use Rattle.book_all.specs.declared.BookedAll.TheVariants.{Done}
 
 -- what is left to book from a place of the text on, once n answers of so many are given
 abbrev ahead : List ℕ → ℕ → ℕ → ℕ → List (List ℕ)
@@ -37,7 +36,6 @@ pub record Turn (table text answers t given : List ℕ) (at n : ℕ) : Type 0 wh
   pub inside : at ≤ length text
   pub room : n ≤ length answers
   pub good : sound t ≡ true
-  pub same_table : length t ≡ length table
   pub same_answers : length given ≡ length answers
 
 pub first_turn : (table text answers : List ℕ) → sound table ≡ true → Turn table text answers table answers 0 0
@@ -50,7 +48,6 @@ first_turn table text answers good =
       inside = omega arith;
       room = omega arith;
       good = good;
-      same_table = refl;
       same_answers = refl;
     }
 
@@ -58,15 +55,9 @@ take_none : (n : ℕ) → take {A = List ℕ} n [] ≡ []
 take_none zero = refl
 take_none (suc n) = refl
 
--- the test of the loop
-pub goes_on : (at n : ℕ) (text given : List ℕ) → (ltb at (length text) && ltb n (length given)) ≡ true → (at < length text) × (n < length given)
-goes_on at n text given e =
-    let (a, b) = both (ltb at (length text)) (ltb n (length given)) e in
-    (ltb-true at (length text) a, ltb-true n (length given) b)
-
 module _ {table text answers t given : List ℕ} {at n : ℕ} (turn : Turn table text answers t given at n) where
   -- nothing is left
-  at_end : sound table ≡ true → ahead text (length answers) at n ≡ [] → BooksAll table text answers (Done (record { bytes = at; pieces = n })) t given
+  at_end : sound table ≡ true → ahead text (length answers) at n ≡ [] → BooksAll table text answers (Ok (record { bytes = at; pieces = n })) t given
   at_end good e =
       let b : bytes_of (first_pieces (length answers) text) ≡ at = turn.bytes ∙ rw (e, add-zero) in
       let c : length (first_pieces (length answers) text) ≡ n = turn.count ∙ rw (e, add-zero) in
@@ -76,22 +67,13 @@ module _ {table text answers t given : List ℕ} {at n : ℕ} (turn : Turn table
         told = rw good (sym (turn.told ∙ rw e));
       }
 
-  text_used : length text ≤ at → ahead text (length answers) at n ≡ []
-  text_used h = rw (drop_of_length-le text h) (take_none (length answers - n))
+  pub text_used : sound table ≡ true → length text ≤ at → BooksAll table text answers (Ok (record { bytes = at; pieces = n })) t given
+  text_used good h = at_end good (rw (drop_of_length-le text h) (take_none (length answers - n)))
 
-  answers_full : length given ≤ n → ahead text (length answers) at n ≡ []
-  answers_full h =
+  pub answers_full : sound table ≡ true → length given ≤ n → BooksAll table text answers (Ok (record { bytes = at; pieces = n })) t given
+  answers_full good h =
       let full : length answers - n ≡ 0 = omega (arith, turn.same_answers, turn.room) in
-      rw full
-
-  -- the text is used up, or the answers are full
-  pub stops : sound table ≡ true → (ltb at (length text) && ltb n (length given)) ≡ false
-      → BooksAll table text answers (Done (record { bytes = at; pieces = n })) t given
-  stops good e = at_end good (go (ltb at (length text)) refl e)
-    where
-      go : (b : Bool) → ltb at (length text) ≡ b → (b && ltb n (length given)) ≡ false → ahead text (length answers) at n ≡ []
-      go true q e = answers_full (ltb-false n (length given) e)
-      go false q e = text_used (ltb-false at (length text) q)
+      at_end good (rw full)
 
   -- the next piece is booked
   module _ (end : ℕ) (more : at < length text) (free : n < length given) (e : end ≡ at + piece_length (drop at text)) where
@@ -106,7 +88,7 @@ module _ {table text answers t given : List ℕ} {at n : ℕ} (turn : Turn table
         let one_less : length answers - n ≡ suc (length answers - (n + 1)) = omega (arith, turn.same_answers) in
         rw (one_less, next_piece text at end more e)
 
-    pub next_turn : {x : Booking} {after : List ℕ} {c : ℕ} → Books t p x after → c ≡ code_of (booking_of x)
+    pub next_turn : {x : Result (Unit {0}) Refusal} {after : List ℕ} {c : ℕ} → Books t p x after → c ≡ code_of (answer_of x)
         → Turn table text answers after (set given n c) end (n + 1)
     next_turn {x} {after} {c} b k =
         let long = part_long text at end more e in
@@ -119,6 +101,5 @@ module _ {table text answers t given : List ℕ} {at n : ℕ} (turn : Turn table
           inside = omega (arith, piece_bounds text at end more e);
           room = omega (arith, turn.same_answers);
           good = rw b.out (booked_sound t p turn.good);
-          same_table = ap length b.out ∙ booked_length t p ∙ turn.same_table;
           same_answers = length-set given n c ∙ turn.same_answers;
         }
