@@ -1,5 +1,5 @@
 -- `index::scanning::scan` meets its contract: none of the records passed has the key.
-use Rattle.std.proofs.Common.{◌≡◌, sym, ◌∙◌, add-one, arith}
+use Rattle.std.proofs.Common.{sym, ◌∙◌, add-one, arith}
 use Rattle.index.specs.Searches.{has_key}
 use Rattle.index.proofs.Firsts.{first_past, first_hit}
 use Rattle.index.proofs.scanning.scan.Goals as goal
