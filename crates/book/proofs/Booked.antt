@@ -81,27 +81,12 @@ module _ {s heads nexts : List ℕ} (good : sound s ≡ true) (x : Beside s head
   pub made_beside : (w : QuoteRow) → u ≡ row_appended w s → Beside u heads nexts
   made_beside w e = rw e (row_appended_beside x (sound_apart s good).bytes.few w)
 
--- the first E of a quote makes its row
-pub row_made : (s u : List ℕ) (r : Record) (q : Quote) (w : QuoteRow) → q ≡ quote_of r → w ≡ new_row q r.contracts → u ≡ row_appended w s
-    → u ≡ after_plan NewRow r s
-row_made s u r q w e f g = g ∙ ap (λ v. row_appended v s) (f ∙ ap (λ k. new_row k r.contracts) e)
-
 -- the elder's figures, then the order that names it
 pub one_replaced : (s u v : List ℕ) (i : ℕ) (f : Figures) (r : Record) (o : Order) → u ≡ refigured i f s → o ≡ new_order r r.contracts (i + 1) → v ≡ appended o u
     → v ≡ after_plan (Replace i f) r s
 one_replaced s u v i f r o e k g = g ∙ ap₂ appended k e
 
 -- ---- a plan is carried out
-
-pub plan_is : (s : List ℕ) (r : Record) (q p : Result Plan Refusal) → Plans s r q → q ≡ p → Plans s r p
-plan_is s r q p h e = rw e at h
-
--- the plan that is carried out, p, is known to be q
-pub room_for : (s : List ℕ) (p q : Plan) → p ≡ q → RoomFor p s → RoomFor q s
-room_for s p q e h = rw e at h
-
-pub carried : (s : List ℕ) (r : Record) (p q : Plan) (after : List ℕ) → p ≡ q → after ≡ after_plan q r s → after ≡ after_plan p r s
-carried s r p q after e out = rw e out
 
 pub planned : {s : List ℕ} {r : Record} {p : Plan} {after : List ℕ} → Plans s r (Ok p) → after ≡ after_plan p r s → BooksSaid s (line r) (Ok tt) after
 planned plan e = record { said = plan.said; out = e ∙ plan.out }

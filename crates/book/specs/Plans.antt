@@ -8,12 +8,13 @@ use Rattle.layout.specs.declared.Event.{Event}
 use Rattle.layout.specs.declared.Event.TheVariants.{Accepted, Executed, Cancelled, Broken, Replaced, Repriced}
 use Rattle.layout.specs.declared.Record.{Record}
 use Rattle.order.specs.Figure.{executed_by, broken_by, cancelled_by, passed_on}
+use Rattle.order.specs.Names.{key_of}
 use Rattle.order.specs.declared.Figures.{Figures}
 use Rattle.order.specs.declared.Order.{Order}
 use Rattle.quote.specs.Quotes.{most_rows, quote_of, new_row}
 use Rattle.quote.specs.declared.QuoteRow.{QuoteRow}
-use Rattle.day.specs.History.{is_execution, is_maker}
-use Rattle.day.specs.Machine.{book_said, found, differs, not_open, not_executed, Seen, none, seen, row_not_executed, row_full, with_figures, with_price, new_order}
+use Rattle.day.specs.History.{is_new, is_execution, is_maker}
+use Rattle.day.specs.Machine.{book_said, found, find, is_found, differs, not_open, not_executed, Seen, none, seen, row_not_executed, row_full, with_figures, with_price, new_order}
 use Rattle.slot.specs.Places.{SlotInside}
 use Rattle.slot.specs.declared.Asked.{Asked}
 use Rattle.quote_slot.specs.QuoteSlots.{RowInside}
@@ -87,6 +88,12 @@ RoomFor (Price i p) s = SlotInside i s
 RoomFor (Replace i f) s = SlotInside i s × (count_in s < limit_of (length s))
 RoomFor NewRow s = RowInside (base_in s) (row_count_in s) s × (row_count_in s < 255)
 RoomFor (Sums i e b) s = RowInside (base_in s) i s
+
+-- what refusals 6 and 7 leave of a line that is no A
+pub record Older (s : List ℕ) (r : Record) : Type 0 where
+  pub not_over : (table_in s).over ≡ false
+  pub not_known : (is_maker r.event && is_found (find (key_of r) (table_in s).orders)) ≡ false
+  pub not_new : is_new r.event ≡ false
 
 -- a plan for a line
 pub record Plans (s : List ℕ) (r : Record) (p : Result Plan Refusal) : Type 0 where

@@ -18,7 +18,6 @@ use line::Outcome;
 use order::{Figures, Order};
 use quote::QuoteRow;
 use refusal::Refusal;
-use slot::Place;
 use table::{damage, header};
 
 // Any bytes for a table, any piece. On a refusal not one byte is changed.
@@ -59,6 +58,7 @@ pub fn book_sound(
     }
 }
 
+#[tactic(auto, using(table::proofs::Sound::header_there))]
 fn book_end(t: &mut [u8]) -> Result<(), Refusal>
     requires { sound t.old ≡ true }
     ensures { BooksSaid t.old end_of_day result t.new }
@@ -75,7 +75,7 @@ fn book_line(
     t: &mut [u8],
     heads: &mut [u16],
     nexts: &mut [u16],
-    own: Place,
+    own: Option<usize>,
     r: Record,
 ) -> Result<(), Refusal>
     requires t_value { sound t.old ≡ true }
@@ -90,6 +90,15 @@ fn book_line(
     Ok(())
 }
 
+#[tactic(
+    auto,
+    using(
+        crate::proofs::Booked::free_kept,
+        crate::proofs::Booked::refigured_beside,
+        crate::proofs::Booked::repriced_beside,
+        crate::proofs::Booked::made_beside
+    )
+)]
 fn carry_out(t: &mut [u8], heads: &mut [u16], nexts: &mut [u16], plan: Plan, r: Record)
     requires room_for { RoomFor plan t.old }
     requires beside { Beside t.old heads.old nexts.old }
