@@ -21,8 +21,6 @@ use Rattle.line.specs.declared.Outcome.{Outcome}
 use Rattle.order.specs.Names.{key_of}
 use Rattle.order.specs.declared.Figures.{Figures}
 use Rattle.order.specs.declared.Order.{Order}
-use Rattle.quote.specs.Quotes.{quote_of, new_row}
-use Rattle.quote.specs.declared.Quote.{Quote}
 use Rattle.quote.specs.declared.QuoteRow.{QuoteRow}
 use Rattle.day.specs.Machine.{place, refusal_of, with_figures, with_price, new_order}
 use Rattle.slot.specs.Slots.{key_in, order_in, slot_bytes}
@@ -35,10 +33,10 @@ use Rattle.lookup.proofs.Beside.{over_beside, changed_beside, row_changed_beside
 use Rattle.table.proofs.Holding.{count_kept}
 use Rattle.table.proofs.Sound.{sound_apart}
 use Rattle.book.specs.Bytes.{book_bytes, book_answer}
-use Rattle.book.specs.Plans.{refigured, resummed, Plans, RoomFor, BooksSaid, after_plan}
+use Rattle.book.specs.Plans.{refigured, resummed, Plans, BooksSaid, after_plan}
 use Rattle.book.specs.Promises.{Books}
 use Rattle.book.specs.declared.Plan.{Plan}
-use Rattle.book.specs.declared.Plan.TheVariants.{Replace, NewRow}
+use Rattle.book.specs.declared.Plan.TheVariants.{Replace}
 
 -- ---- the line of a record
 
@@ -80,6 +78,9 @@ module _ {s heads nexts : List ℕ} (good : sound s ≡ true) (x : Beside s head
 
   pub made_beside : (w : QuoteRow) → u ≡ row_appended w s → Beside u heads nexts
   made_beside w e = rw e (row_appended_beside x (sound_apart s good).bytes.few w)
+
+-- what carrying out a plan cites of them
+pub ruleset kept_beside = (free_kept, refigured_beside, repriced_beside, made_beside)
 
 -- the elder's figures, then the order that names it
 pub one_replaced : (s u v : List ℕ) (i : ℕ) (f : Figures) (r : Record) (o : Order) → u ≡ refigured i f s → o ≡ new_order r r.contracts (i + 1) → v ≡ appended o u

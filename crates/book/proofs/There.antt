@@ -3,7 +3,7 @@
 use Prim.Native.Nat.{ℕ, ◌+◌, ◌≤◌, ◌<◌}
 use native.Mathlib.Nat.{zero-add}
 use native.Mathlib.Omega.{arith}
-use mathlib.Core.Path.{◌≡◌, sym, ap, ◌∙◌}
+use mathlib.Core.Path.{◌≡◌, ap, ◌∙◌}
 use mathlib.Core.Bool.{true, false}
 use mathlib.Core.List.{List}
 use borrow.Author.Tests.{leb-false}
@@ -11,11 +11,9 @@ use lib.Dec.{leb}
 use lib.ListN.{length, get_or}
 use Rattle.order.specs.Figure.{Sound}
 use Rattle.order.specs.declared.Key.{Key}
-use Rattle.order.specs.declared.Order.{Order}
 use Rattle.quote.specs.Quotes.{most_rows, most_executed}
 use Rattle.quote.specs.Rows.{row_place}
 use Rattle.quote.specs.declared.Quote.{Quote}
-use Rattle.quote.specs.declared.QuoteRow.{QuoteRow}
 use Rattle.quote.proofs.Named.{row_number}
 use Rattle.day.specs.Machine.{found, find, place, seen, find_row}
 use Rattle.day.proofs.QuoteRows.{row_parts}

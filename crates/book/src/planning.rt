@@ -34,7 +34,13 @@ pub fn own(t: &[u8], heads: &[u16], nexts: &[u16], piece: &[u8]) -> Option<usize
 
 // 6 and 7 first, as 01 has them. Of an A only 12 is left then; any other line is about an order of the table, or about a quote row.
 #[tactic(auto, using(table::proofs::Sound::header_there))]
-pub fn plan(t: &[u8], heads: &[u16], nexts: &[u16], own: Option<usize>, r: Record) -> Result<Plan, Refusal>
+pub fn plan(
+    t: &[u8],
+    heads: &[u16],
+    nexts: &[u16],
+    own: Option<usize>,
+    r: Record,
+) -> Result<Plan, Refusal>
     requires t_value { sound t.now ≡ true }
     requires beside { Beside t.now heads.now nexts.now }
     requires own_value { place_no own ≡ place (key_of r) (table_in t.now).orders }
@@ -80,7 +86,13 @@ fn subject(t: &[u8], heads: &[u16], nexts: &[u16], r: Record, own: Option<usize>
 }
 
 // A line about an order of the table, or about a quote row.
-fn plan_older(t: &[u8], heads: &[u16], nexts: &[u16], r: Record, own: Option<usize>) -> Result<Plan, Refusal>
+fn plan_older(
+    t: &[u8],
+    heads: &[u16],
+    nexts: &[u16],
+    r: Record,
+    own: Option<usize>,
+) -> Result<Plan, Refusal>
     requires t_value { sound t.now ≡ true }
     requires beside { Beside t.now heads.now nexts.now }
     requires own_value { place_no own ≡ place (key_of r) (table_in t.now).orders }

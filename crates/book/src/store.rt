@@ -90,15 +90,7 @@ fn book_line(
     Ok(())
 }
 
-#[tactic(
-    auto,
-    using(
-        crate::proofs::Booked::free_kept,
-        crate::proofs::Booked::refigured_beside,
-        crate::proofs::Booked::repriced_beside,
-        crate::proofs::Booked::made_beside
-    )
-)]
+#[tactic(auto, using(crate::proofs::Booked::kept_beside))]
 fn carry_out(t: &mut [u8], heads: &mut [u16], nexts: &mut [u16], plan: Plan, r: Record)
     requires room_for { RoomFor plan t.old }
     requires beside { Beside t.old heads.old nexts.old }
