@@ -45,7 +45,13 @@ fn book_pieces(
             return Used { bytes, pieces };
         }
         let cut = piece::cut(text, bytes);
-        answers[pieces] = answer(book::book_sound(t, heads, nexts, &text[bytes..cut.end], cut.plain));
+        answers[pieces] = answer(book::book_sound(
+            t,
+            heads,
+            nexts,
+            &text[bytes..cut.end],
+            cut.plain,
+        ));
         bytes = cut.end;
     }
     let pieces = answers.len();
@@ -53,6 +59,7 @@ fn book_pieces(
 }
 
 // Any bytes for a table, any text, any number of answers. A damaged table is refused before anything.
+#[tactic(auto, using(table::proofs::Limits::limit_most))]
 pub fn book(t: &mut [u8], text: &[u8], answers: &mut [u32]) -> Result<Used, Refusal>
     ensures { BooksAll t.old text.now answers.old result t.new answers.new }
 {

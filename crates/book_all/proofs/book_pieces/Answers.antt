@@ -1,7 +1,4 @@
 -- `book_all::book_pieces` meets its contract: at each turn, what was booked and what is left to book are the whole.
-use Prim.Native.Nat.{◌≤◌, ◌<◌}
-use native.Mathlib.Omega.{arith}
-use lib.ListN.{length}
 use borrow.Author.Rules.{rules}
 use Rattle.piece.proofs.Lent.{piece_bounds, plain_lent}
 use Rattle.book_all.proofs.Turns.{next_turn}
@@ -17,7 +14,7 @@ book_sound-requires-clause-piece_value c e = plain_lent _ _ _ c.cut-cut.ensures.
 
 pub loop-pieces-preserved : goal.loop-pieces-preserved
 loop-pieces-preserved c =
-    let room : c.loop-pieces.pieces < length c.loop-pieces.answers = omega arith in
-    let booked = c.book_sound.ensures in
-    (next_turn c.loop-pieces.invariant.0 c.cut-cut.result.end c.if-text-bytes.false room c.cut-cut.ensures.ends booked.books c.answer.ensures,
-      booked.beside_2)
+    let booked = c.book_sound.ensures in (
+      next_turn c.loop-pieces.invariant.0 c.cut-cut.result.end c.if-text-bytes.false c.loop-pieces-test.true c.cut-cut.ensures.ends booked.books c.answer.ensures,
+      booked.beside_2,
+    )
