@@ -45,13 +45,8 @@ fn book_pieces(
             return Used { bytes, pieces };
         }
         let cut = piece::cut(text, bytes);
-        answers[pieces] = answer(book::book_sound(
-            t,
-            heads,
-            nexts,
-            &text[bytes..cut.end],
-            cut.plain,
-        ));
+        let said = book::book_sound(t, heads, nexts, &text[bytes..cut.end], cut.plain);
+        answers[pieces] = answer(said);
         bytes = cut.end;
     }
     let pieces = answers.len();
