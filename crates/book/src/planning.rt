@@ -9,45 +9,35 @@ ghost use Rattle.day.specs.Refusals.{subject as refusals_subject};
 ghost use Rattle.slot.specs.Slots.{key_in};
 ghost use Rattle.slot.specs.Places.{place_no};
 ghost use Rattle.table.specs.Tables.{limit_of, table_in, sound};
-ghost use Rattle.lookup.specs.Beside.{Beside};
 ghost use Rattle.book.specs.Plans.{Older, Plans, order_with, plan_about, plan_by};
 
 use crate::{Plan, conditions, fills};
 use layout::{Event, Record};
+use lookup::Day;
 use refusal::Refusal;
 use slot::Asked;
 use table::header;
 
 // The order with the key of a piece that is as long as a line. The key is lent as the piece has it, since a Key by value would be stored anew on the way to the
 // lookup.
-pub fn own(t: &[u8], heads: &[u16], nexts: &[u16], piece: &[u8]) -> Option<usize>
-    requires t_value { sound t.now ≡ true }
-    requires beside { Beside t.now heads.now nexts.now }
-    ensures { length piece.now ≡ 140 → place_no result ≡ place (key_in (part piece.now 30 26)) (table_in t.now).orders }
+pub fn own(day: &Day<'_>, piece: &[u8]) -> Option<usize>
+    ensures { length piece.now ≡ 140 → place_no result ≡ place (key_in (part piece.now 30 26)) (table_in day.now.table.now).orders }
 {
     if piece.len() != layout::LINE {
         return None;
     }
     let key = &piece[layout::SOURCE..layout::REPLACED];
-    lookup::find(t, heads, nexts, lookup::bucket(heads, key), key)
+    day.find(day.bucket(key), key)
 }
 
 // 6 and 7 first, as 01 has them. Of an A only 12 is left then; any other line is about an order of the table, or about a quote row.
 #[tactic(auto, using(table::proofs::Sound::header_there))]
-pub fn plan(
-    t: &[u8],
-    heads: &[u16],
-    nexts: &[u16],
-    own: Option<usize>,
-    r: Record,
-) -> Result<Plan, Refusal>
-    requires t_value { sound t.now ≡ true }
-    requires beside { Beside t.now heads.now nexts.now }
-    requires own_value { place_no own ≡ place (key_of r) (table_in t.now).orders }
+pub fn plan(day: &Day<'_>, own: Option<usize>, r: Record) -> Result<Plan, Refusal>
+    requires own_value { place_no own ≡ place (key_of r) (table_in day.now.table.now).orders }
     requires lawful_record { LawfulRecord r }
-    ensures { Plans t.now r result }
+    ensures { Plans day.now.table.now r result }
 {
-    if header::is_over(t) {
+    if header::is_over(day.table) {
         return Err(Refusal::DayOver);
     }
     let event = r.event;
@@ -55,9 +45,9 @@ pub fn plan(
         return Err(Refusal::KnownKey);
     }
     if !conditions::is_new(event) {
-        return plan_older(t, heads, nexts, r, own);
+        return plan_older(day, r, own);
     }
-    if is_full(t) {
+    if is_full(day.table) {
         return Err(Refusal::Full);
     }
     Ok(Plan::New)
@@ -72,38 +62,28 @@ fn is_full(t: &[u8]) -> bool
 }
 
 // The order that a line speaks of: for U, the elder.
-fn subject(t: &[u8], heads: &[u16], nexts: &[u16], r: Record, own: Option<usize>) -> Option<usize>
-    requires t_value { sound t.now ≡ true }
-    requires beside { Beside t.now heads.now nexts.now }
-    requires own_value { place_no own ≡ place (key_of r) (table_in t.now).orders }
-    ensures { place_no result ≡ place (refusals_subject r) (table_in t.now).orders }
+fn subject(day: &Day<'_>, r: Record, own: Option<usize>) -> Option<usize>
+    requires { place_no own ≡ place (key_of r) (table_in day.now.table.now).orders }
+    ensures { place_no result ≡ place (refusals_subject r) (table_in day.now.table.now).orders }
 {
     let event = r.event;
     if !conditions::is_replace(event) {
         return own;
     }
-    lookup::find_key(t, heads, nexts, order::elder_key_of(r))
+    day.find_key(order::elder_key_of(r))
 }
 
 // A line about an order of the table, or about a quote row.
-fn plan_older(
-    t: &[u8],
-    heads: &[u16],
-    nexts: &[u16],
-    r: Record,
-    own: Option<usize>,
-) -> Result<Plan, Refusal>
-    requires t_value { sound t.now ≡ true }
-    requires beside { Beside t.now heads.now nexts.now }
-    requires own_value { place_no own ≡ place (key_of r) (table_in t.now).orders }
-    requires older { Older t.now r }
+fn plan_older(day: &Day<'_>, r: Record, own: Option<usize>) -> Result<Plan, Refusal>
+    requires own_value { place_no own ≡ place (key_of r) (table_in day.now.table.now).orders }
+    requires older { Older day.now.table.now r }
     requires lawful_record { LawfulRecord r }
-    ensures { Plans t.now r result }
+    ensures { Plans day.now.table.now r result }
 {
-    let Some(i) = subject(t, heads, nexts, r, own) else {
-        return fills::plan_fill(t, r);
+    let Some(i) = subject(day, r, own) else {
+        return fills::plan_fill(day.table, r);
     };
-    plan_about(i, slot::asked_at(t, i), r, is_full(t))
+    plan_about(i, slot::asked_at(day.table, i), r, is_full(day.table))
 }
 
 // Of a line about the order at place i, a being what is asked of it: the first of refusals 9 to 12 that applies, or what is to be stored.

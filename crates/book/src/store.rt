@@ -15,6 +15,7 @@ ghost use Rattle.book.specs.Promises.{Books};
 use crate::{Plan, planning};
 use layout::Record;
 use line::Said;
+use lookup::Day;
 use order::{Figures, Order};
 use quote::QuoteRow;
 use refusal::Refusal;
@@ -30,28 +31,29 @@ pub fn book(t: &mut [u8], piece: &[u8]) -> Result<(), Refusal>
     // An index would cost more than the one or two scans of a single piece.
     let mut heads = [0u16; 0];
     let mut nexts = [0u16; 0];
-    book_sound(t, &mut heads, &mut nexts, piece, false)
+    let mut day = Day {
+        table: t,
+        heads: &mut heads,
+        nexts: &mut nexts,
+    };
+    book_sound(&mut day, piece, false)
 }
 
 // For a caller that holds the table sound by proof, and an index beside it or none: the same promise, and no damage check is paid.
-pub fn book_sound(
-    t: &mut [u8],
-    heads: &mut [u16],
-    nexts: &mut [u16],
-    piece: &[u8],
-    plain: bool,
-) -> Result<(), Refusal>
-    requires t_value { sound t.old ≡ true }
-    requires beside { Beside t.old heads.old nexts.old }
-    requires piece_value { plain ≡ true → printable piece.now ≡ true }
-    ensures books { Books t.old piece.now result t.new }
-    ensures beside_2 { Beside t.new heads.new nexts.new }
+pub fn book_sound(day: &mut Day<'_>, piece: &[u8], plain: bool) -> Result<(), Refusal>
+    requires { plain ≡ true → printable piece.now ≡ true }
+    ensures books { Books day.old.table.now piece.now result day.new.table.now }
+    ensures same { day.new.table.ghost_name ≡ day.old.table.ghost_name }
 {
     // Looked up before the line is read: the processor then does both at once.
-    let own = planning::own(t, heads, nexts, piece);
+    let own = planning::own(day, piece);
     match line::read_in(piece, plain)? {
-        Said::EndOfDay => book_end(t),
-        Said::Line(r) => book_line(t, heads, nexts, own, r),
+        Said::EndOfDay => book_end(day.table),
+        Said::Line(r) => {
+            let plan = planning::plan(day, own, r)?;
+            carry_out(day.table, day.heads, day.nexts, plan, r);
+            Ok(())
+        }
     }
 }
 
@@ -64,26 +66,6 @@ fn book_end(t: &mut [u8]) -> Result<(), Refusal>
         return Err(Refusal::DayOver);
     }
     header::put_over(t);
-    Ok(())
-}
-
-// The line's own key was looked up already.
-fn book_line(
-    t: &mut [u8],
-    heads: &mut [u16],
-    nexts: &mut [u16],
-    own: Option<usize>,
-    r: Record,
-) -> Result<(), Refusal>
-    requires t_value { sound t.old ≡ true }
-    requires beside { Beside t.old heads.old nexts.old }
-    requires own_value { place_no own ≡ place (key_of r) (table_in t.old).orders }
-    requires lawful_record { LawfulRecord r }
-    ensures books_said { BooksSaid t.old (line_line r) result t.new }
-    ensures beside_2 { Beside t.new heads.new nexts.new }
-{
-    let plan = planning::plan(t, heads, nexts, own, r)?;
-    carry_out(t, heads, nexts, plan, r);
     Ok(())
 }
 

@@ -3,10 +3,9 @@
 
 ghost use Rattle.std.specs.Prelude.{◌≡◌, true};
 ghost use Rattle.refusal.specs.Answer.{answer_of, code_of};
-ghost use Rattle.table.specs.Tables.{sound};
-ghost use Rattle.lookup.specs.Beside.{Beside};
 ghost use Rattle.book_all.specs.Promises.{BooksAll};
 
+use lookup::Day;
 use refusal::Refusal;
 use table::damage;
 
@@ -28,16 +27,9 @@ fn answer(x: Result<(), Refusal>) -> u32
 }
 
 // Until the text ends or the answers are full. The table is sound by proof: no piece pays for a damage check.
-fn book_pieces(
-    t: &mut [u8],
-    heads: &mut [u16],
-    nexts: &mut [u16],
-    text: &[u8],
-    answers: &mut [u32],
-) -> Used
-    requires t_value { sound t.old ≡ true }
-    requires beside { Beside t.old heads.old nexts.old }
-    ensures { BooksAll t.old text.now answers.old (Ok result) t.new answers.new }
+fn book_pieces(day: &mut Day<'_>, text: &[u8], answers: &mut [u32]) -> Used
+    ensures books { BooksAll day.old.table.now text.now answers.old (Ok result) day.new.table.now answers.new }
+    ensures same { day.new.table.ghost_name ≡ day.old.table.ghost_name }
 {
     let mut bytes = 0;
     for pieces in 0..answers.len() {
@@ -45,7 +37,7 @@ fn book_pieces(
             return Used { bytes, pieces };
         }
         let cut = piece::cut(text, bytes);
-        let said = book::book_sound(t, heads, nexts, &text[bytes..cut.end], cut.plain);
+        let said = book::book_sound(day, &text[bytes..cut.end], cut.plain);
         answers[pieces] = answer(said);
         bytes = cut.end;
     }
@@ -63,6 +55,6 @@ pub fn book(t: &mut [u8], text: &[u8], answers: &mut [u32]) -> Result<Used, Refu
     }
     let mut heads = lookup::heads_buffer();
     let mut nexts = lookup::nexts_buffer();
-    lookup::build(t, &mut heads, &mut nexts);
-    Ok(book_pieces(t, &mut heads, &mut nexts, text, answers))
+    let mut day = lookup::indexed(t, &mut heads, &mut nexts);
+    Ok(book_pieces(&mut day, text, answers))
 }

@@ -9,12 +9,12 @@ slice_bounds-book_sound-end c =
     let bounds = piece_bounds c.args.text.now c.loop-pieces.bytes c.cut-cut.result.end c.if-text-bytes.false c.cut-cut.ensures.ends in
     search (rules, bounds)
 
-pub book_sound-said-requires-clause-piece_value : goal.book_sound-said-requires-clause-piece_value
-book_sound-said-requires-clause-piece_value c e = plain_lent _ _ _ c.cut-cut.ensures.ends (c.cut-cut.ensures.plain e)
+pub book_sound-said-requires : goal.book_sound-said-requires
+book_sound-said-requires c e = plain_lent _ _ _ c.cut-cut.ensures.ends (c.cut-cut.ensures.plain e)
 
 pub loop-pieces-preserved : goal.loop-pieces-preserved
 loop-pieces-preserved c =
     let booked = c.book_sound-said.ensures in (
       next_turn c.loop-pieces.invariant.0 c.cut-cut.result.end c.if-text-bytes.false c.loop-pieces-test.true c.cut-cut.ensures.ends booked.books c.answer.ensures,
-      booked.beside_2,
+      search rules,
     )

@@ -1,8 +1,8 @@
 -- `book_all::book_pieces` meets its contract: at each turn, what was booked and what is left to book are the whole.
-use Rattle.lookup.specs.Beside.{Beside}
+use Rattle.std.specs.Prelude.{◌≡◌}
 use Rattle.book_all.proofs.Turns.{Turn}
 use Rattle.book_all.proofs.book_pieces.Given as goal
 
--- the turn, and the index beside the table
+-- the turn, over the table that was lent
 abbrev pub invariant-loop-pieces : goal.invariant-loop-pieces
-invariant-loop-pieces l = Turn l.initial.t l.text l.initial.answers l.t l.answers l.bytes l.pieces × Beside l.t l.heads l.nexts
+invariant-loop-pieces l = Turn l.initial.day.table.now l.text l.initial.answers l.day.table.now l.answers l.bytes l.pieces × (l.day.table.ghost_name ≡ l.initial.day.table.ghost_name)

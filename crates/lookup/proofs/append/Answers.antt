@@ -6,20 +6,20 @@ use borrow.Author.Rules.{rules}
 use Rattle.lookup.proofs.append.Goals as goal
 
 pub count-n-requires : goal.count-n-requires
-count-n-requires c = omega (arith, slot_inside _ _ c.requires.t_bound)
+count-n-requires c = omega (arith, slot_inside _ _ c.requires.room)
 
 pub append-requires : goal.append-requires
-append-requires c = slot_inside _ _ c.requires.t_bound
+append-requires c = slot_inside _ _ c.requires.room
 
 pub returns-then-heads-eq0 : goal.returns-then-heads-eq0
 returns-then-heads-eq0 c =
-    record { t_after = search rules; beside_2 = none_beside _ _ _ c.if-heads-eq0.true }
+    record { table = search rules; beside = none_beside _ _ _ c.if-heads-eq0.true }
 
 pub enter-requires : goal.enter-requires
-enter-requires c = let both = append_enters c.args.t.now _ c.args.o c.requires.t_bound c.append.ensures c.requires.beside (omega arith) c.keys.ensures c.count-n.ensures in
+enter-requires c = let both = append_enters c.args.t.now _ c.args.o c.requires.room c.append.ensures c.requires.beside (omega arith) c.keys.ensures c.count-n.ensures in
     record { indexed = both.0; enters = both.1 }
 
 pub returns : goal.returns
 returns c =
     let entered = c.enter.ensures in
-    record { t_after = search rules; beside_2 = append_beside c.args.t.now _ c.args.o c.requires.t_bound c.append.ensures _ c.requires.beside c.keys.ensures c.count-n.ensures entered.indexed entered.heads_long entered.nexts_long }
+    record { table = search rules; beside = append_beside c.args.t.now _ c.args.o c.requires.room c.append.ensures _ c.requires.beside c.keys.ensures c.count-n.ensures entered.indexed entered.heads_long entered.nexts_long }

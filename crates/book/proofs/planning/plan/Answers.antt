@@ -29,15 +29,15 @@ taken : {maker known : Bool} (r : Record) (own : Option ℕ) (os : List Order) �
     → place_no own ≡ place (key_of r) os → (maker && known) ≡ (is_maker r.event && is_found (find (key_of r) os))
 taken r own os m e f = ap₂ (λ a b. a && b) m (e ∙ answered own (key_of r) os f)
 
-not_known : (c : Else-is_maker-is_some) → (is_maker c.args.r.event && is_found (find (key_of c.args.r) (table_in c.args.t.now).orders)) ≡ false
+not_known : (c : Else-is_maker-is_some) → (is_maker c.args.r.event && is_found (find (key_of c.args.r) (table_in c.args.day.now.table.now).orders)) ≡ false
 not_known c = sym (taken c.args.r c.args.own _ c.is_maker.ensures c.is_some.ensures c.requires.own_value) ∙ c.if-is_maker-is_some.false
 
 pub returns-then-is_over : goal.returns-then-is_over
-returns-then-is_over c = day_over c.args.t.now c.args.r (search rules)
+returns-then-is_over c = day_over c.args.day.now.table.now c.args.r (search rules)
 
 pub returns-then-is_maker-is_some : goal.returns-then-is_maker-is_some
 returns-then-is_maker-is_some c =
-    known_key c.args.t.now c.args.r (search rules)
+    known_key c.args.day.now.table.now c.args.r (search rules)
     (sym (taken c.args.r c.args.own _ c.is_maker.ensures c.is_some.ensures c.requires.own_value) ∙ c.if-is_maker-is_some.true)
 
 pub plan_older-requires-clause-older : goal.plan_older-requires-clause-older
@@ -45,7 +45,7 @@ plan_older-requires-clause-older c =
     record { not_over = search rules; not_known = not_known (goal.at.plan_older-requires-clause-older c).Else-is_maker-is_some; not_new = search rules }
 
 pub returns-then-is_full : goal.returns-then-is_full
-returns-then-is_full c = full_of_new c.args.t.now c.args.r (search rules) (not_known (goal.at.returns-then-is_full c).Else-is_maker-is_some) (search rules) (search rules)
+returns-then-is_full c = full_of_new c.args.day.now.table.now c.args.r (search rules) (not_known (goal.at.returns-then-is_full c).Else-is_maker-is_some) (search rules) (search rules)
 
 pub returns : goal.returns
-returns c = new c.args.t.now c.args.r (search rules) (not_known (goal.at.returns c).Else-is_maker-is_some) (search rules) (search rules)
+returns c = new c.args.day.now.table.now c.args.r (search rules) (not_known (goal.at.returns c).Else-is_maker-is_some) (search rules) (search rules)

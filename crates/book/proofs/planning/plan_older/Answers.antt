@@ -8,11 +8,11 @@ use Rattle.book.proofs.Planned.{about}
 use Rattle.book.proofs.planning.plan_older.Goals as goal
 use Rattle.book.proofs.planning.plan_older.Goals.{In-Some}
 
-here : (c : In-Some) → There c.args.t.now (subject c.args.r) c.in-Some.i
-here c = there _ _ _ c.requires.t_value (sym c.in-Some.ensures)
+here : (c : In-Some) → There c.args.day.now.table.now (subject c.args.r) c.in-Some.i
+here c = there _ _ _ c.args.day.now.sound (sym c.in-Some.ensures)
 
 pub plan_fill-requires-clause-absent : goal.plan_fill-requires-clause-absent
-plan_fill-requires-clause-absent c = nobody_found (subject c.args.r) (table_in c.args.t.now).orders (sym c.in_default.ensures)
+plan_fill-requires-clause-absent c = nobody_found (subject c.args.r) (table_in c.args.day.now.table.now).orders (sym c.in_default.ensures)
 
 pub asked_at-requires : goal.asked_at-requires
 asked_at-requires c = (here c).inside
@@ -23,4 +23,4 @@ plan_about-requires c = rw c.asked_at.ensures (here (goal.at.plan_about-requires
 pub returns : goal.returns
 returns c =
     rw (c.plan_about.ensures, c.asked_at.ensures)
-    (about c.args.t.now c.args.r c.requires.older c.in-Some.i (here (goal.at.returns c).In-Some) c.is_full.result c.is_full.ensures)
+    (about c.args.day.now.table.now c.args.r c.requires.older c.in-Some.i (here (goal.at.returns c).In-Some) c.is_full.result c.is_full.ensures)
