@@ -118,7 +118,7 @@ fn reprice(t: &mut [u8], i: usize, p: u64)
     slot::store_price(t, i, p);
 }
 
-// The quote is read from the row, since a plan holds no array.
+// The quote is read from the row, so that a plan stays small.
 fn resum(t: &mut [u8], i: usize, executed: u64, broken: u64)
     requires { RowInside (base_in t.old) i t.old }
     ensures { t.new ≡ resummed i executed broken t.old }
