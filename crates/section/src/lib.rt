@@ -27,7 +27,7 @@ pub fn same(t: &[u8], c: Section, i: usize, bytes: &[u8]) -> bool
     requires bytes_len { length bytes.now ≡ c.width }
     ensures { result ≡ runs_same (record_of c t.now i) bytes.now }
 {
-    run::same_at(t, c.first + c.step * i, bytes)
+    run::same_at(t, start(t, c, i), bytes)
 }
 
 // An append is a store at the number of the records that are there.
@@ -36,5 +36,6 @@ pub fn store(t: &mut [u8], c: Section, i: usize, bytes: &[u8])
     requires bytes_len { length bytes.now ≡ c.width }
     ensures { t.new ≡ sets t.old (start_of c i) bytes.now }
 {
-    run::store(t, c.first + c.step * i, bytes);
+    let at = start(t, c, i);
+    run::store(t, at, bytes);
 }
