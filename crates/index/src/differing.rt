@@ -11,9 +11,7 @@ impl Index<'_> {
         requires { i < self.now.n }
         ensures { result ≡ (earliest self.now.keys self.now.t.now i (record_of self.now.keys self.now.t.now i) == 0) }
     {
-        let at = section::start(self.t, self.keys, i);
-        let end = at + self.keys.width;
-        self.find(&self.t[at..end]) == Some(i)
+        self.find(section::record(self.t, self.keys, i)) == Some(i)
     }
 
     // Whether no two records have one key. Asked of the index that is there, so that building it is no dearer for a caller that does not ask.

@@ -1,30 +1,23 @@
 -- `index::chain::Index::is_earliest` meets its contract: its key, which is lent, leads to the record exactly where no earlier one has it.
-use Rattle.std.proofs.Common.{◌+◌, eqb, ap, ◌∙◌, rules}
-use Rattle.section.specs.Sections.{Inside}
-use Rattle.section.proofs.Places.{record_lent}
+use Rattle.std.proofs.Common.{◌+◌, eqb, ap, ◌∙◌, arith}
+use Rattle.section.proofs.Places.{length_record}
 use Rattle.index.specs.Searches.{earliest}
 use Rattle.index.proofs.Repeats.{own_earliest, place_alike}
 use Rattle.index.proofs.chain.Index.is_earliest.Goals as goal
-use Rattle.index.proofs.chain.Index.is_earliest.Goals.{Start}
 
--- record i lies within the bytes
-there : (c : Start) → Inside c.args.self.now.keys c.args.self.now.t.now c.args.i
-there c = c.args.self.now.indexed.holds.inside c.args.i c.requires
+pub record-requires : goal.record-requires
+record-requires c = c.args.self.now.indexed.holds.inside c.args.i c.requires
 
-pub start-at-requires : goal.start-at-requires
-start-at-requires c = there (goal.at.start-at-requires c).Start
-
-pub overflow_add-end : goal.overflow_add-end
-overflow_add-end c = search (rules, there (goal.at.overflow_add-end c).Start)
-
-pub slice_bounds-find-end : goal.slice_bounds-find-end
-slice_bounds-find-end c = search (rules, there (goal.at.slice_bounds-find-end c).Start)
+pub find-requires : goal.find-requires
+find-requires c =
+    let x = c.args.self.now in
+    rw c.record.ensures (length_record x.keys x.t.now c.args.i (x.indexed.holds.inside c.args.i c.requires))
 
 pub returns : goal.returns
 returns c =
-    let a = c.args in
-    let x = a.self.now in
+    let x = c.args.self.now in
+    let i = c.args.i in
     c.eq.ensures
-    ∙ place_alike c.find.result a.i
-    ∙ ap (λ r. eqb r (a.i + 1)) (c.find.ensures ∙ ap (earliest x.keys x.t.now x.n) (record_lent x.keys x.t.now a.i c.start-at.result c.start-at.ensures))
-    ∙ own_earliest x.keys x.t.now x.n a.i c.requires
+    ∙ place_alike c.find.result i
+    ∙ ap (λ r. eqb r (i + 1)) (c.find.ensures ∙ ap (earliest x.keys x.t.now x.n) c.record.ensures)
+    ∙ own_earliest x.keys x.t.now x.n i c.requires
