@@ -1,7 +1,7 @@
 -- `index::chain::Index::walk` meets its contract: what is found so far, and the records up to the one it stands at, give the answer.
-use Rattle.std.proofs.Common.{◌-◌, ◌<◌, true, false, length, arith, rules}
+use Rattle.std.proofs.Common.{◌<◌, true, false, length, arith, rules}
 use Rattle.index.proofs.Tagging.{bucket_under}
-use Rattle.index.proofs.Chains.{walk_first, walk_next, walk_falls, walk_end}
+use Rattle.index.proofs.Chains.{walk_first, walk_next, walk_falls}
 use Rattle.index.proofs.chain.Index.walk.Goals as goal
 use Rattle.index.proofs.chain.Index.walk.Goals.{Start, then-same, else-same}
 
@@ -20,21 +20,6 @@ loop-at-init c =
     let x = c.args.self.now in
     walk_first x.keys x.t.now x.n x.heads.now x.nexts.now c.args.key.now x.indexed c.args.b c.requires.b_value (under (goal.at.loop-at-init c).Start)
 
-pub same-requires : goal.same-requires
-same-requires c =
-    let l = c.loop-at in
-    record { inside = c.args.self.now.indexed.holds.inside (l.at - 1) (omega (arith, l.invariant.within)); bytes_len = c.requires.key_len }
-
-pub offset_bounds-self-i : goal.offset_bounds-self-i
-offset_bounds-self-i c =
-    let x = c.args.self.now in
-    let l = c.loop-at in
-    let inside : l.at - 1 < length x.nexts.now = omega (arith, l.invariant.within, x.indexed.room) in
-    search rules
-
-pub bounds-self-i : goal.bounds-self-i
-bounds-self-i c = omega (arith, c.loop-at.invariant.within, c.args.self.now.indexed.room)
-
 pub loop-at-smaller : goal.loop-at-smaller
 loop-at-smaller c =
     let x = c.args.self.now in
@@ -45,8 +30,3 @@ loop-at-preserved c =
     let x = c.args.self.now in
     let next = walk_next x.keys x.t.now x.n x.heads.now x.nexts.now c.args.key.now x.indexed c.args.b c.requires.b_value c.loop-at.invariant (omega arith) c.same.ensures in
     elim c.if-same.branch [ then-same w ↦ rw w.best-is (next true w.if-same.true) | else-same w ↦ rw w.best-is (next false w.if-same.false) ]
-
-pub returns : goal.returns
-returns c =
-    let x = c.args.self.now in
-    walk_end x.keys x.t.now x.n x.heads.now x.nexts.now c.args.key.now c.loop-at.invariant (omega arith)
