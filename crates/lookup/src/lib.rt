@@ -48,7 +48,7 @@ impl Day<'_> {
         requires { length key.now ≡ 26 }
         ensures { Bucket self.now.heads.now key.now result }
     {
-        if self.heads.len() == 0 {
+        if self.heads.is_empty() {
             return 0;
         }
         index::bucket(&key[0..KEY], self.heads.len())
@@ -61,7 +61,7 @@ impl Day<'_> {
         ensures { place_no result ≡ place (key_in key.now) (table_in self.now.table.now).orders }
     {
         let n = header::count(self.table) as usize;
-        if self.heads.len() == 0 {
+        if self.heads.is_empty() {
             return slot::find(self.table, n, key);
         }
         slot::find_indexed(self.table, n, self.heads, self.nexts, b, key)
@@ -86,7 +86,7 @@ pub fn append(t: &mut [u8], heads: &mut [u16], nexts: &mut [u16], o: Order)
 {
     let n = header::count(t) as usize;
     table::append(t, o);
-    if heads.len() == 0 {
+    if heads.is_empty() {
         return;
     }
     index::enter(t, slot::keys(), n, heads, nexts);

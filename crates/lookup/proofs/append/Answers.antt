@@ -11,9 +11,9 @@ count-n-requires c = omega (arith, slot_inside _ _ c.requires.room)
 pub append-requires : goal.append-requires
 append-requires c = slot_inside _ _ c.requires.room
 
-pub returns-then-heads-eq0 : goal.returns-then-heads-eq0
-returns-then-heads-eq0 c =
-    record { table = search rules; beside = none_beside _ _ _ c.if-heads-eq0.true }
+pub returns-then-is_empty : goal.returns-then-heads-eq0
+returns-then-is_empty c =
+    record { table = search rules; beside = none_beside _ _ _ c.if-is_empty.true }
 
 pub enter-requires : goal.enter-requires
 enter-requires c = let both = append_enters c.args.t.now _ c.args.o c.requires.room c.append.ensures c.requires.beside (omega arith) c.keys.ensures c.count-n.ensures in

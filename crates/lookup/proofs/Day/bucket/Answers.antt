@@ -6,8 +6,8 @@ use Rattle.index.specs.Tags.{bucket_of}
 use Rattle.slot.proofs.Keyed.{key_whole}
 use Rattle.lookup.proofs.Day.bucket.Goals as goal
 
-pub returns-then-self-eq0 : goal.returns-then-self-eq0
-returns-then-self-eq0 c = λ h. absurd (omega arith)
+pub returns-then-is_empty : goal.returns-then-self-eq0
+returns-then-is_empty c = λ h. absurd (omega arith)
 
 pub returns : goal.returns
 returns c =

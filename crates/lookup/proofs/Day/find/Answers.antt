@@ -15,8 +15,8 @@ pub find-requires : goal.find-requires
 find-requires c =
     record { n_in_bounds = omega (arith, c.count-n.ensures, slots_there c.args.self.now.table.now c.args.self.now.sound); key_len = c.requires.key_len }
 
-pub returns-then-self-eq0 : goal.returns-then-self-eq0
-returns-then-self-eq0 c =
+pub returns-then-is_empty : goal.returns-then-self-eq0
+returns-then-is_empty c =
     let a = c.args in
     c.find.ensures ∙ ap (λ n. place (key_in a.key.now) (orders_in 0 n a.self.now.table.now)) c.count-n.ensures
 
