@@ -12,27 +12,25 @@ use layout::{Numbers, Record, Trade};
 // As long as the fields of its line.
 pub const RECORD: usize = layout::FIELDS;
 
-// The field of the first byte without meaning, or 0.
-pub fn unmeant(b: &[u8]) -> u8
+// The field of the first byte without meaning, or none.
+#[tactic(auto, unfolding(crate::specs::Images::unmeant))]
+pub fn unmeant(b: &[u8]) -> Option<u8>
     requires { length b.now ≡ 138 }
     ensures { result ≡ images_unmeant b.now }
 {
     if !run::member(b[8], &layout::TYPES) {
-        return 2;
+        Some(2)
+    } else if odd_liquidity(b) {
+        Some(6)
+    } else if !run::zeros(b, 118, 2) {
+        Some(22)
+    } else if odd_id(b, 120) {
+        Some(23)
+    } else if odd_id(b, 129) {
+        Some(24)
+    } else {
+        None
     }
-    if odd_liquidity(b) {
-        return 6;
-    }
-    if !run::zeros(b, 118, 2) {
-        return 22;
-    }
-    if odd_id(b, 120) {
-        return 23;
-    }
-    if odd_id(b, 129) {
-        return 24;
-    }
-    0
 }
 
 fn odd_liquidity(b: &[u8]) -> bool
@@ -67,6 +65,7 @@ fn numbers(b: &[u8]) -> Numbers
 }
 
 // The bytes stand where they stand in a line, so what makes a line's record makes theirs.
+#[tactic(auto, unfolding(crate::specs::Images::record_in))]
 pub fn load(b: &[u8]) -> Record
     requires { length b.now ≡ 138 }
     ensures { result ≡ record_in b.now }
@@ -83,11 +82,11 @@ pub fn store(r: Record, piece: &[u8], out: &mut [u8])
     run::store(out, 0, &piece[0..layout::FIELDS]);
     put_early(r, out);
     put_late(r, out);
-    let event = r.event;
-    put_ids(record::trade_of(event), out);
+    put_ids(record::trade_of(r.event), out);
 }
 
 // The numbers go in three lots, since the prover reads only so many facts of one function.
+#[tactic(auto, unfolding(crate::specs::Images::early_set))]
 fn put_early(r: Record, out: &mut [u8])
     requires { 138 ≤ length out.old }
     ensures { out.new ≡ early_set r out.old }
@@ -97,6 +96,7 @@ fn put_early(r: Record, out: &mut [u8])
     cell::put(out, 99, 2, r.date);
 }
 
+#[tactic(auto, unfolding(crate::specs::Images::late_set))]
 fn put_late(r: Record, out: &mut [u8])
     requires { 138 ≤ length out.old }
     ensures { out.new ≡ late_set r out.old }
@@ -106,6 +106,7 @@ fn put_late(r: Record, out: &mut [u8])
     cell::put(out, 110, 10, r.price);
 }
 
+#[tactic(auto, unfolding(crate::specs::Images::ids_set))]
 fn put_ids(t: Trade, out: &mut [u8])
     requires { 138 ≤ length out.old }
     ensures { out.new ≡ ids_set t out.old }
