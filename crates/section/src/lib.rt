@@ -14,11 +14,20 @@ pub struct Section {
     pub width: usize,
 }
 
-pub fn start(t: &[u8], c: Section, i: usize) -> usize
+fn start(t: &[u8], c: Section, i: usize) -> usize
     requires { Inside c t.now i }
     ensures { result ≡ start_of c i }
 {
     c.first + c.step * i
+}
+
+// Record i as it is lent.
+pub fn record(t: &[u8], c: Section, i: usize) -> &[u8]
+    requires { Inside c t.now i }
+    ensures { result.now ≡ record_of c t.now i }
+{
+    let at = start(t, c, i);
+    &t[at..at + c.width]
 }
 
 // Whether record i is the bytes given.
