@@ -14,13 +14,13 @@ use Rattle.order.specs.Names.{same_key}
 use Rattle.order.specs.declared.Key.{Key}
 use Rattle.order.specs.declared.Order.{Order}
 use Rattle.day.specs.Machine.{place}
-use Rattle.section.specs.Sections.{record_of, Holds, KeyOf}
+use Rattle.section.specs.Sections.{record_of, KeyOf}
 use Rattle.section.specs.declared.Section.{Section}
 use Rattle.section.proofs.Places.{key_in_record}
 use Rattle.index.specs.Searches.{has_key, earliest}
 use Rattle.index.proofs.Listed.{earliest_listed}
 use Rattle.slot.specs.Slots.{slot_width, key_in, key_bytes, order_in}
-use Rattle.slot.specs.Places.{slots, slot_keys, slot_at, slot, orders_in}
+use Rattle.slot.specs.Places.{slots, slot_keys, slot, orders_in}
 use Rattle.slot.proofs.Runs.{length_key}
 
 pub keys_of_slots : KeyOf slot_keys slots
@@ -79,12 +79,6 @@ pub key_whole : (key : List ℕ) → length key ≡ 26 → take 26 key ≡ key
 key_whole key e = take_all 26 key (omega arith)
 
 module _ {keys : Section} (q : keys ≡ slot_keys) where
-  pub keys_held : (s : List ℕ) (n : ℕ) → slot_at n ≤ length s → Holds keys s n
-  keys_held s n h = let held : Holds slot_keys s n = record { apart = omega arith; inside = λ i l. omega arith } in rw q held
-
-  pub key_wide : (key : List ℕ) → length key ≡ 26 → length (take 26 key) ≡ keys.width
-  key_wide key e = rw (key_whole key e, q) e
-
   pub found_place : (s : List ℕ) (n : ℕ) (key : List ℕ) → length key ≡ 26 → {found : ℕ} → found ≡ earliest keys s n (take 26 key)
       → found ≡ place (key_in key) (orders_in 0 n s)
   found_place s n key e f = f ∙ rw (key_whole key e, q) (earliest_place s n key e)
