@@ -61,7 +61,7 @@ pub struct Record {
 }
 
 // The numbers of a line, as far as its fields were read, the rest 0; or those of the bytes that a host gives.
-#[derive(Clone, Copy)]
+#[derive(Clone, Copy, Default)]
 pub struct Numbers {
     pub timestamp: u64,
     pub contracts: u64,

@@ -1,52 +1,33 @@
 // Reading a piece; the value and the form of a strike; the time of day.
 #![tactic(auto)]
 
+ghost use Rattle.std.specs.Prelude.{◌≡◌};
+ghost use Rattle.line.specs.Groups.{kept};
+
 mod fields;
 mod strikes;
 mod times;
 
 pub use fields::{read, read_in};
-use layout::{Clock, Numbers, Record, Strike};
+use layout::Record;
 use refusal::Refusal;
 pub use strikes::{strike_form, strike_value};
 pub use times::clock;
 
+// What a piece says that is not refused.
 #[derive(Clone, Copy)]
-pub enum Outcome {
+pub enum Said {
     EndOfDay,
-    Line,
-    Refused(Refusal),
+    Line(Record),
 }
 
-// An enum holds no array, so the record stands beside it: blank unless the outcome is a line.
-#[derive(Clone, Copy)]
-pub struct Reading {
-    pub outcome: Outcome,
-    pub line: Record,
-}
-
-// What a group of fields says: its own numbers, the others 0; or the refusal for the first of its fields that breaks its rule.
-#[derive(Clone, Copy)]
-pub(crate) enum Group {
-    Lawful(Numbers),
-    Refused(Refusal),
-}
-
-// A strike in hundred-thousandths of a dollar.
-#[derive(Clone, Copy)]
-pub enum StrikeValue {
-    Value(u64),
-    Refused(Refusal),
-}
-
-#[derive(Clone, Copy)]
-pub enum StrikeForm {
-    Form(Strike),
-    Refused(Refusal),
-}
-
-#[derive(Clone, Copy)]
-pub enum TimeOfDay {
-    Time(Clock),
-    Refused(Refusal),
+// Refused is a field that breaks its rule.
+pub(crate) fn keep(lawful: bool, field: u8) -> Result<(), Refusal>
+    ensures { result ≡ kept lawful field }
+{
+    if lawful {
+        Ok(())
+    } else {
+        Err(Refusal::Field(field))
+    }
 }

@@ -1,47 +1,51 @@
 -- `book::planning::plan` meets its contract.
-use mathlib.Core.Path.{◌≡◌, sym, ◌∙◌}
-use mathlib.Core.Bool.{false, ◌&&◌}
-use Rattle.order.specs.Names.{key_of}
-use Rattle.day.specs.History.{is_maker}
-use Rattle.day.specs.Machine.{find, is_found}
+use Prim.Native.Nat.{ℕ}
+use mathlib.Core.Path.{◌≡◌, sym, ap₂, ◌∙◌}
+use mathlib.Core.Bool.{Bool, false, ◌&&◌}
+use mathlib.Core.List.{List, []}
+use Rattle.std.specs.Prelude.{Option, Some, None, is_some}
+use Rattle.layout.specs.declared.Record.{Record}
+use Rattle.order.specs.declared.Key.{Key}
+use Rattle.order.specs.declared.Order.{Order}
 use Rattle.slot.specs.Slots.{order_in}
 use Rattle.slot.specs.Places.{place_no}
-use Rattle.table.specs.Tables.{table_in}
-use Rattle.table.proofs.Sound.{header_there}
-use Rattle.book.proofs.Judged.{taken_is}
-use Rattle.book.proofs.Planned.{day_over, known_key, full_of_new, new}
+use Rattle.slot.proofs.Lookups.{at_found, nobody_found}
 use borrow.Author.Rules.{rules}
+use Rattle.order.specs.Names.{key_of}
+use Rattle.day.specs.History.{is_maker}
+use Rattle.day.specs.Machine.{find, is_found, place}
+use Rattle.table.specs.Tables.{table_in}
+use Rattle.book.proofs.Planned.{day_over, known_key, full_of_new, new}
 use Rattle.book.proofs.planning.plan.Goals as goal
-use Rattle.book.proofs.planning.plan.Goals.{After-is_taken}
+use Rattle.book.proofs.planning.plan.Goals.{Else-is_maker-is_some}
 
-not_over : (c : After-is_taken) → (table_in c.args.t.now).over ≡ false
-not_over c = sym c.is_over.ensures ∙ c.if-is_over.false
+-- a place is answered where an order is found
+answered : (own : Option ℕ) (k : Key) (os : List Order) → place_no own ≡ place k os → is_some own ≡ is_found (find k os)
+answered None k os e = rw (nobody_found k os (sym e))
+answered (Some i) k os e = rw (at_found k os i (order_in []) (sym e)).1
 
-taken : (c : After-is_taken) → c.is_taken.result ≡ (is_maker c.args.r.event && is_found (find (key_of c.args.r) (table_in c.args.t.now).orders))
-taken c =
-    let a = c.args in c.is_taken.ensures ∙ taken_is (is_maker a.r.event) (key_of a.r) (table_in a.t.now).orders (order_in a.t.now) (place_no a.own) c.requires.own_value
+-- whether a line that makes an order would take the key of another, by what the lookup of its key answered
+taken : {maker known : Bool} (r : Record) (own : Option ℕ) (os : List Order) → maker ≡ is_maker r.event → known ≡ is_some own
+    → place_no own ≡ place (key_of r) os → (maker && known) ≡ (is_maker r.event && is_found (find (key_of r) os))
+taken r own os m e f = ap₂ (λ a b. a && b) m (e ∙ answered own (key_of r) os f)
 
-pub is_over-requires : goal.is_over-requires
-is_over-requires c = header_there c.args.t.now (search rules)
+not_known : (c : Else-is_maker-is_some) → (is_maker c.args.r.event && is_found (find (key_of c.args.r) (table_in c.args.t.now).orders)) ≡ false
+not_known c = sym (taken c.args.r c.args.own _ c.is_maker.ensures c.is_some.ensures c.requires.own_value) ∙ c.if-is_maker-is_some.false
 
 pub returns-then-is_over : goal.returns-then-is_over
-returns-then-is_over c =
-    day_over c.args.t.now c.args.r (sym c.is_over.ensures ∙ c.if-is_over.true)
+returns-then-is_over c = day_over c.args.t.now c.args.r (search rules)
 
-pub returns-then-is_taken : goal.returns-then-is_taken
-returns-then-is_taken c =
-    known_key c.args.t.now c.args.r (not_over (goal.at.returns-then-is_taken c).After-is_taken) (sym (taken (goal.at.returns-then-is_taken c).After-is_taken) ∙ c.if-is_taken.true)
+pub returns-then-is_maker-is_some : goal.returns-then-is_maker-is_some
+returns-then-is_maker-is_some c =
+    known_key c.args.t.now c.args.r (search rules)
+    (sym (taken c.args.r c.args.own _ c.is_maker.ensures c.is_some.ensures c.requires.own_value) ∙ c.if-is_maker-is_some.true)
 
-pub plan_older-requires : goal.plan_older-requires
-plan_older-requires c =
-    record { t_value = c.requires.t_value; beside = c.requires.beside; own_value = c.requires.own_value; t_value_2 = not_over (goal.at.plan_older-requires c).After-is_taken; t_value_3 = sym (taken (goal.at.plan_older-requires c).After-is_taken) ∙ c.if-is_taken.false; event_value = sym c.is_new.ensures ∙ c.if-not-is_new.true; lawful_record = c.requires.lawful_record }
+pub plan_older-requires-clause-older : goal.plan_older-requires-clause-older
+plan_older-requires-clause-older c =
+    record { not_over = search rules; not_known = not_known (goal.at.plan_older-requires-clause-older c).Else-is_maker-is_some; not_new = search rules }
 
 pub returns-then-is_full : goal.returns-then-is_full
-returns-then-is_full c =
-    let made = sym c.is_new.ensures ∙ c.if-not-is_new.false in
-    full_of_new c.args.t.now c.args.r (not_over (goal.at.returns-then-is_full c).After-is_taken) (sym (taken (goal.at.returns-then-is_full c).After-is_taken) ∙ c.if-is_taken.false) made (sym c.is_full.ensures ∙ c.if-is_full.true)
+returns-then-is_full c = full_of_new c.args.t.now c.args.r (search rules) (not_known (goal.at.returns-then-is_full c).Else-is_maker-is_some) (search rules) (search rules)
 
 pub returns : goal.returns
-returns c =
-    let made = sym c.is_new.ensures ∙ c.if-not-is_new.false in
-    new c.args.t.now c.args.r (not_over (goal.at.returns c).After-is_taken) (sym (taken (goal.at.returns c).After-is_taken) ∙ c.if-is_taken.false) made (sym c.is_full.ensures ∙ c.if-is_full.false)
+returns c = new c.args.t.now c.args.r (search rules) (not_known (goal.at.returns c).Else-is_maker-is_some) (search rules) (search rules)
