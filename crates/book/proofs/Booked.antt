@@ -16,8 +16,6 @@ use Rattle.run.proofs.Parts.{part_part}
 use Rattle.layout.proofs.Names.{source_said, token_said, said_length}
 use Rattle.layout.specs.Line.{Said, line, end_of_day, read}
 use Rattle.layout.specs.declared.Record.{Record}
-use Rattle.line.specs.Promises.{said_of}
-use Rattle.line.specs.declared.Outcome.{Outcome}
 use Rattle.order.specs.Names.{key_of}
 use Rattle.order.specs.declared.Figures.{Figures}
 use Rattle.order.specs.declared.Order.{Order}
@@ -111,9 +109,6 @@ end_beside {s} {heads = heads} {nexts = nexts} k x = rw k.out (go (eqb (refusal_
     go false = x
 
 -- ---- a piece
-
-pub outcome_is : (piece : List ℕ) (o q : Outcome) (r : Record) → o ≡ q → said_of o r ≡ read piece → said_of q r ≡ read piece
-outcome_is piece o q r e h = rw e at h
 
 pub damaged : (s piece : List ℕ) → sound s ≡ false → Books s piece (Err Damaged) s
 unfolding book_bytes book_answer

@@ -14,7 +14,7 @@ ghost use Rattle.book.specs.Promises.{Books};
 
 use crate::{Plan, planning};
 use layout::Record;
-use line::Outcome;
+use line::Said;
 use order::{Figures, Order};
 use quote::QuoteRow;
 use refusal::Refusal;
@@ -49,12 +49,9 @@ pub fn book_sound(
 {
     // Looked up before the line is read: the processor then does both at once.
     let own = planning::own(t, heads, nexts, piece);
-    let reading = line::read_in(piece, plain);
-    let outcome = reading.outcome;
-    match outcome {
-        Outcome::EndOfDay => book_end(t),
-        Outcome::Line => book_line(t, heads, nexts, own, reading.line),
-        Outcome::Refused(x) => Err(x),
+    match line::read_in(piece, plain)? {
+        Said::EndOfDay => book_end(t),
+        Said::Line(r) => book_line(t, heads, nexts, own, r),
     }
 }
 
