@@ -18,49 +18,76 @@ use refusal::Refusal;
 use slot::Asked;
 use table::header;
 
-// The order with the key of a piece that is as long as a line. The key is lent as the piece has it, since a Key by value would be stored anew on the way to the
-// lookup.
-pub fn own(t: &[u8], heads: &[u16], nexts: &[u16], piece: &[u8]) -> Option<usize>
-    requires t_value { sound t.now ≡ true }
-    requires beside { Beside t.now heads.now nexts.now }
-    ensures { length piece.now ≡ 140 → place_no result ≡ place (key_in (part piece.now 30 26)) (table_in t.now).orders }
-{
-    if piece.len() != layout::LINE {
-        return None;
-    }
-    let key = &piece[layout::SOURCE..layout::REPLACED];
-    lookup::find(t, heads, nexts, lookup::bucket(heads, key), key)
+// A sound table and an index beside it or none, lent to be looked into.
+#[derive(Clone, Copy)]
+pub struct Lent<'a> {
+    pub t: &'a [u8],
+    pub heads: &'a [u16],
+    pub nexts: &'a [u16],
+    ghost good: { sound t.now ≡ true },
+    ghost beside: { Beside t.now heads.now nexts.now },
 }
 
-// 6 and 7 first, as 01 has them. Of an A only 12 is left then; any other line is about an order of the table, or about a quote row.
-#[tactic(auto, using(table::proofs::Sound::header_there))]
-pub fn plan(
-    t: &[u8],
-    heads: &[u16],
-    nexts: &[u16],
-    own: Option<usize>,
-    r: Record,
-) -> Result<Plan, Refusal>
-    requires t_value { sound t.now ≡ true }
-    requires beside { Beside t.now heads.now nexts.now }
-    requires own_value { place_no own ≡ place (key_of r) (table_in t.now).orders }
-    requires lawful_record { LawfulRecord r }
-    ensures { Plans t.now r result }
-{
-    if header::is_over(t) {
-        return Err(Refusal::DayOver);
+impl Lent<'_> {
+    // The order with the key of a piece that is as long as a line. The key is lent as the piece has it, since a Key by value would be stored anew on the way to the
+    // lookup.
+    pub fn own(&self, piece: &[u8]) -> Option<usize>
+        ensures { length piece.now ≡ 140 → place_no result ≡ place (key_in (part piece.now 30 26)) (table_in self.now.t.now).orders }
+    {
+        if piece.len() != layout::LINE {
+            return None;
+        }
+        let key = &piece[layout::SOURCE..layout::REPLACED];
+        lookup::find(self.t, self.heads, self.nexts, lookup::bucket(self.heads, key), key)
     }
-    let event = r.event;
-    if conditions::is_maker(event) & own.is_some() {
-        return Err(Refusal::KnownKey);
+
+    // 6 and 7 first, as 01 has them. Of an A only 12 is left then; any other line is about an order of the table, or about a quote row.
+    #[tactic(auto, using(table::proofs::Sound::header_there))]
+    pub fn plan(&self, own: Option<usize>, r: Record) -> Result<Plan, Refusal>
+        requires own_value { place_no own ≡ place (key_of r) (table_in self.now.t.now).orders }
+        requires lawful_record { LawfulRecord r }
+        ensures { Plans self.now.t.now r result }
+    {
+        if header::is_over(self.t) {
+            return Err(Refusal::DayOver);
+        }
+        let event = r.event;
+        if conditions::is_maker(event) & own.is_some() {
+            return Err(Refusal::KnownKey);
+        }
+        if !conditions::is_new(event) {
+            return self.plan_older(own, r);
+        }
+        if is_full(self.t) {
+            return Err(Refusal::Full);
+        }
+        Ok(Plan::New)
     }
-    if !conditions::is_new(event) {
-        return plan_older(t, heads, nexts, r, own);
+
+    // The order that a line speaks of: for U, the elder.
+    fn subject(&self, own: Option<usize>, r: Record) -> Option<usize>
+        requires own_value { place_no own ≡ place (key_of r) (table_in self.now.t.now).orders }
+        ensures { place_no result ≡ place (refusals_subject r) (table_in self.now.t.now).orders }
+    {
+        let event = r.event;
+        if !conditions::is_replace(event) {
+            return own;
+        }
+        lookup::find_key(self.t, self.heads, self.nexts, order::elder_key_of(r))
     }
-    if is_full(t) {
-        return Err(Refusal::Full);
+
+    // A line about an order of the table, or about a quote row.
+    fn plan_older(&self, own: Option<usize>, r: Record) -> Result<Plan, Refusal>
+        requires own_value { place_no own ≡ place (key_of r) (table_in self.now.t.now).orders }
+        requires older { Older self.now.t.now r }
+        requires lawful_record { LawfulRecord r }
+        ensures { Plans self.now.t.now r result }
+    {
+        let Some(i) = self.subject(own, r) else {
+            return fills::plan_fill(self.t, r);
+        };
+        plan_about(i, slot::asked_at(self.t, i), r, is_full(self.t))
     }
-    Ok(Plan::New)
 }
 
 #[tactic(auto, using(table::proofs::Sound::header_there, slot::proofs::Laws::length_orders))]
@@ -69,41 +96,6 @@ fn is_full(t: &[u8]) -> bool
     ensures { result ≡ leb (limit_of (length t.now)) (length (table_in t.now).orders) }
 {
     header::limit(t.len()) <= header::count(t)
-}
-
-// The order that a line speaks of: for U, the elder.
-fn subject(t: &[u8], heads: &[u16], nexts: &[u16], r: Record, own: Option<usize>) -> Option<usize>
-    requires t_value { sound t.now ≡ true }
-    requires beside { Beside t.now heads.now nexts.now }
-    requires own_value { place_no own ≡ place (key_of r) (table_in t.now).orders }
-    ensures { place_no result ≡ place (refusals_subject r) (table_in t.now).orders }
-{
-    let event = r.event;
-    if !conditions::is_replace(event) {
-        return own;
-    }
-    lookup::find_key(t, heads, nexts, order::elder_key_of(r))
-}
-
-// A line about an order of the table, or about a quote row.
-fn plan_older(
-    t: &[u8],
-    heads: &[u16],
-    nexts: &[u16],
-    r: Record,
-    own: Option<usize>,
-) -> Result<Plan, Refusal>
-    requires t_value { sound t.now ≡ true }
-    requires beside { Beside t.now heads.now nexts.now }
-    requires own_value { place_no own ≡ place (key_of r) (table_in t.now).orders }
-    requires older { Older t.now r }
-    requires lawful_record { LawfulRecord r }
-    ensures { Plans t.now r result }
-{
-    let Some(i) = subject(t, heads, nexts, r, own) else {
-        return fills::plan_fill(t, r);
-    };
-    plan_about(i, slot::asked_at(t, i), r, is_full(t))
 }
 
 // Of a line about the order at place i, a being what is asked of it: the first of refusals 9 to 12 that applies, or what is to be stored.

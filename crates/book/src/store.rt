@@ -12,7 +12,8 @@ ghost use Rattle.lookup.specs.Beside.{Beside};
 ghost use Rattle.book.specs.Plans.{BooksSaid, RoomFor, after_plan, refigured, resummed};
 ghost use Rattle.book.specs.Promises.{Books};
 
-use crate::{Plan, planning};
+use crate::planning::Lent;
+use crate::Plan;
 use layout::Record;
 use line::Said;
 use order::{Figures, Order};
@@ -48,7 +49,7 @@ pub fn book_sound(
     ensures beside_2 { Beside t.new heads.new nexts.new }
 {
     // Looked up before the line is read: the processor then does both at once.
-    let own = planning::own(t, heads, nexts, piece);
+    let own = Lent { t, heads, nexts }.own(piece);
     match line::read_in(piece, plain)? {
         Said::EndOfDay => book_end(t),
         Said::Line(r) => book_line(t, heads, nexts, own, r),
@@ -82,7 +83,7 @@ fn book_line(
     ensures books_said { BooksSaid t.old (line_line r) result t.new }
     ensures beside_2 { Beside t.new heads.new nexts.new }
 {
-    let plan = planning::plan(t, heads, nexts, own, r)?;
+    let plan = Lent { t, heads, nexts }.plan(own, r)?;
     carry_out(t, heads, nexts, plan, r);
     Ok(())
 }

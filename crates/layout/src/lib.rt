@@ -6,7 +6,7 @@ mod rules;
 pub use rules::{
     CAPACITIES, DENOMINATORS, FIELDS, FIRST_DATE, LAST_DATE, LAST_TIMESTAMP, LAST_YEAR,
     LEAST_CONTRACTS, LINE, MONTHS, MOST_CONTRACTS, MOST_ID, MOST_PRICE, MOST_STRIKE, POSITIONS,
-    REPLACED, SIDES, SOURCE, TYPES, id, is_replace, is_trade, lawful_strike, least_strike,
+    REPLACED, SIDES, SOURCE, TYPES, id, is_replace, is_trade, keep, lawful_strike, least_strike,
     liquidity, replaced, within,
 };
 

@@ -25,7 +25,8 @@ use Rattle.layout.specs.Records.{event_of, event_from, record_of, record_from}
 use Rattle.layout.specs.declared.Numbers.{Numbers}
 use Rattle.layout.specs.declared.Record.{Record}
 use Rattle.layout.proofs.Lines.{exact_of}
-use Rattle.line.specs.Groups.{kept, group, none_by, numbers_by, timestamp_of, contracts_of, series_of, ids_of, all_of, joined, grouped, line_by}
+use Rattle.layout.specs.Kept.{kept}
+use Rattle.line.specs.Groups.{group, none_by, numbers_by, timestamp_of, contracts_of, series_of, ids_of, all_of, joined, grouped, line_by}
 use Rattle.line.specs.declared.Said.TheVariants.{Line}
 use Rattle.field.specs.Verbatim.{is_code, is_text, is_text_or_blank, is_digits_or_blank, is_blank}
 

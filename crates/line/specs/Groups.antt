@@ -1,5 +1,5 @@
 -- What a group of fields says, read by itself, and what all of them say. What the entries promise is in specs/Promises.antt.
-use Rattle.std.specs.Prelude.{ℕ, ◌-◌, ◌/◌, ◌%◌, Bool, cond, ◌&&◌, eqb, List, [], take, drop, Option, Some, None, Result, Ok, Err}
+use Rattle.std.specs.Prelude.{ℕ, ◌-◌, ◌/◌, ◌%◌, cond, ◌&&◌, eqb, List, [], take, drop, Option, Some, None, Result, Ok, Err}
 use Rattle.refusal.specs.declared.Refusal.{Refusal}
 use Rattle.refusal.specs.declared.Refusal.TheVariants.{Field}
 use Rattle.message.specs.Fields.{Fields, breaks, say, read_fields}
@@ -12,10 +12,6 @@ use Rattle.layout.specs.declared.Numbers.{Numbers}
 use Rattle.layout.specs.declared.Strike.{Strike}
 use Rattle.line.specs.declared.Said.{Said}
 use Rattle.line.specs.declared.Said.TheVariants.{Line}
-
--- a field that keeps its rule, or the refusal that names it
-abbrev pub kept : Bool → ℕ → Result (Unit {0}) Refusal
-kept lawful n = cond lawful (Ok tt) (Err (Field n))
 
 -- what fields k + 1 to m of a line say
 abbrev pub group : ℕ → ℕ → List ℕ → Fields

@@ -5,9 +5,9 @@ ghost use Rattle.layout.specs.Line.{crlf, printable};
 ghost use Rattle.line.specs.Groups.{group, numbers_by, timestamp_of, none_by, contracts_of, series_of, ids_of, grouped, line_by};
 ghost use Rattle.line.specs.Promises.{Read};
 
-use crate::{Said, keep};
+use crate::Said;
 use field::{Class, digits, verbatim};
-use layout::Numbers;
+use layout::{Numbers, keep};
 use refusal::Refusal;
 
 // A piece of any length and content. It is refused by the first rule that it breaks.

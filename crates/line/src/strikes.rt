@@ -4,8 +4,7 @@ ghost use Rattle.layout.specs.Strikes.{unit as strikes_unit};
 ghost use Rattle.line.specs.Promises.{StrikeValued, StrikeFormed};
 ghost use Rattle.line.specs.Groups.{form_of};
 
-use crate::keep;
-use layout::Strike;
+use layout::{Strike, keep};
 use refusal::Refusal;
 
 // What one of a strike's digits counts for.

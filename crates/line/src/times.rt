@@ -1,8 +1,7 @@
 // The time of day that a timestamp means.
 ghost use Rattle.line.specs.Promises.{Clocked};
 
-use crate::keep;
-use layout::Clock;
+use layout::{Clock, keep};
 use refusal::Refusal;
 
 // A timestamp is in milliseconds. Refused where no line can have it, field 1.

@@ -1,13 +1,18 @@
--- Fields read a group at a time: what each group says by itself makes what all of them say.
-use Prim.Native.Nat.{ℕ, suc, ◌+◌}
+-- Fields read and checked a group at a time: what each group says by itself makes what all of them say.
+use Prim.Native.Nat.{ℕ, zero, suc, ◌+◌, ◌<◌}
 use native.Mathlib.Nat.{add-zero}
 use native.Mathlib.Omega.{arith}
 use mathlib.Core.Path.{◌≡◌, refl}
+use mathlib.Core.Bool.{Bool, true, false, cond, ◌&&◌}
 use mathlib.Core.List.{List, [], ◌∷◌, ◌++◌, append_assoc, append-nil}
+use borrow.Author.Tests.{eqb-true}
+use lib.Dec.{eqb}
 use lib.ListN.{length, length-append}
+use Rattle.run.specs.Found.{or_else}
 use Rattle.run.specs.Runs.{part}
-use Rattle.message.specs.Fields.{Field, Fields, breaks, say, on_got, read_fields}
-use Rattle.message.specs.Rule.{Value, Got, got, broken, reads}
+use Rattle.run.proofs.Tests.{both}
+use Rattle.message.specs.Fields.{Field, Fields, placed, breaks, say, on_got, read_fields, first_unlawful}
+use Rattle.message.specs.Rule.{Value, Got, got, broken, reads, lawful}
 
 -- what is read behind a group
 abbrev pub then_read : Fields → (List Value → Fields) → Fields
@@ -52,3 +57,23 @@ five_read a b c d e =
 pub read_five : (a b c d e : List Field) (s : List ℕ) → let r : List Field → Fields = λ fs. read_fields fs [] s in
     read_fields (a ++ (b ++ (c ++ (d ++ (e ++ []))))) [] s ≡ five_read (r a) (r b) (r c) (r d) (r e)
 read_five a b c d e s = simp read_append
+
+-- the first unlawful value is one of the first group's, or else one behind it
+pub first_append : (fs gs : List Field) (vs us : List Value) (n at : ℕ) → 0 < n → placed n at fs ≡ true → length vs ≡ length fs
+    → first_unlawful (fs ++ gs) (vs ++ us) ≡ or_else (first_unlawful fs vs) (first_unlawful gs us)
+first_append [] gs [] us n at p t l = refl
+first_append [] gs (v ∷ vs) us n at p t l = absurd (omega arith)
+first_append (f ∷ fs) gs [] us n at p t l = absurd (omega arith)
+first_append (f ∷ fs) gs (v ∷ vs) us n at p t l =
+    let a = both (eqb f.no n && eqb f.at at) (placed (n + 1) (at + f.len) fs) t in
+    let same = eqb-true f.no n (both (eqb f.no n) (eqb f.at at) a.0).0 in
+    go (lawful f.rule f.len v) (first_append fs gs vs us (n + 1) (at + f.len) (omega arith) a.1 (omega arith)) (omega arith)
+  where
+    some : (m k : ℕ) → 0 < m → m ≡ or_else m k
+    some zero k h = absurd (omega arith)
+    some (suc m) k h = refl
+
+    go : (x : Bool) → first_unlawful (fs ++ gs) (vs ++ us) ≡ or_else (first_unlawful fs vs) (first_unlawful gs us) → 0 < f.no
+        → cond x (first_unlawful (fs ++ gs) (vs ++ us)) f.no ≡ or_else (cond x (first_unlawful fs vs) f.no) (first_unlawful gs us)
+    go true ih h = ih
+    go false ih h = some f.no (first_unlawful gs us) h

@@ -1,4 +1,4 @@
--- `book::planning::plan` meets its contract.
+-- `book::planning::Lent::plan` meets its contract.
 use Prim.Native.Nat.{ℕ}
 use mathlib.Core.Path.{◌≡◌, sym, ap₂, ◌∙◌}
 use mathlib.Core.Bool.{Bool, false, ◌&&◌}
@@ -16,8 +16,8 @@ use Rattle.day.specs.History.{is_maker}
 use Rattle.day.specs.Machine.{find, is_found, place}
 use Rattle.table.specs.Tables.{table_in}
 use Rattle.book.proofs.Planned.{day_over, known_key, full_of_new, new}
-use Rattle.book.proofs.planning.plan.Goals as goal
-use Rattle.book.proofs.planning.plan.Goals.{Else-is_maker-is_some}
+use Rattle.book.proofs.planning.Lent.plan.Goals as goal
+use Rattle.book.proofs.planning.Lent.plan.Goals.{Else-is_maker-is_some}
 
 -- a place is answered where an order is found
 answered : (own : Option ℕ) (k : Key) (os : List Order) → place_no own ≡ place k os → is_some own ≡ is_found (find k os)
@@ -29,15 +29,15 @@ taken : {maker known : Bool} (r : Record) (own : Option ℕ) (os : List Order) �
     → place_no own ≡ place (key_of r) os → (maker && known) ≡ (is_maker r.event && is_found (find (key_of r) os))
 taken r own os m e f = ap₂ (λ a b. a && b) m (e ∙ answered own (key_of r) os f)
 
-not_known : (c : Else-is_maker-is_some) → (is_maker c.args.r.event && is_found (find (key_of c.args.r) (table_in c.args.t.now).orders)) ≡ false
+not_known : (c : Else-is_maker-is_some) → (is_maker c.args.r.event && is_found (find (key_of c.args.r) (table_in c.args.self.now.t.now).orders)) ≡ false
 not_known c = sym (taken c.args.r c.args.own _ c.is_maker.ensures c.is_some.ensures c.requires.own_value) ∙ c.if-is_maker-is_some.false
 
 pub returns-then-is_over : goal.returns-then-is_over
-returns-then-is_over c = day_over c.args.t.now c.args.r (search rules)
+returns-then-is_over c = day_over c.args.self.now.t.now c.args.r (search rules)
 
 pub returns-then-is_maker-is_some : goal.returns-then-is_maker-is_some
 returns-then-is_maker-is_some c =
-    known_key c.args.t.now c.args.r (search rules)
+    known_key c.args.self.now.t.now c.args.r (search rules)
     (sym (taken c.args.r c.args.own _ c.is_maker.ensures c.is_some.ensures c.requires.own_value) ∙ c.if-is_maker-is_some.true)
 
 pub plan_older-requires-clause-older : goal.plan_older-requires-clause-older
@@ -45,7 +45,7 @@ plan_older-requires-clause-older c =
     record { not_over = search rules; not_known = not_known (goal.at.plan_older-requires-clause-older c).Else-is_maker-is_some; not_new = search rules }
 
 pub returns-then-is_full : goal.returns-then-is_full
-returns-then-is_full c = full_of_new c.args.t.now c.args.r (search rules) (not_known (goal.at.returns-then-is_full c).Else-is_maker-is_some) (search rules) (search rules)
+returns-then-is_full c = full_of_new c.args.self.now.t.now c.args.r (search rules) (not_known (goal.at.returns-then-is_full c).Else-is_maker-is_some) (search rules) (search rules)
 
 pub returns : goal.returns
-returns c = new c.args.t.now c.args.r (search rules) (not_known (goal.at.returns c).Else-is_maker-is_some) (search rules) (search rules)
+returns c = new c.args.self.now.t.now c.args.r (search rules) (not_known (goal.at.returns c).Else-is_maker-is_some) (search rules) (search rules)
