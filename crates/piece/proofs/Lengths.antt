@@ -8,7 +8,7 @@ use borrow.Author.Tests.{lt-ltb, le-ltb, eq-eqb, ne_eqb}
 use lib.Dec.{eqb}
 use lib.ListN.{length, get_or, drop, drop_of_length-le}
 use Rattle.piece.specs.Pieces.{piece_length, next_piece}
-use Rattle.piece.specs.declared.Ahead.TheVariants.{Piece, Nothing}
+use Rattle.std.proofs.Common.{Some, None}
 use Rattle.run.proofs.Scan.{at_next}
 
 module _ (s : List ℕ) (i : ℕ) where
@@ -24,10 +24,10 @@ module _ (s : List ℕ) (i : ℕ) where
   ends_at_end h = rw (drop_of_length-le s h) (omega arith)
 
 module _ (s : List ℕ) (at : ℕ) where
-  pub nothing_left : length s ≤ at → Nothing ≡ next_piece s at
+  pub nothing_left : length s ≤ at → None ≡ next_piece s at
   nothing_left h = rw (le-ltb at (length s) h)
 
-  pub piece_left : (r : ℕ) → at < length s → r ≡ at + piece_length (drop at s) → Piece r ≡ next_piece s at
+  pub piece_left : (r : ℕ) → at < length s → r ≡ at + piece_length (drop at s) → Some r ≡ next_piece s at
   piece_left r h e = rw (lt-ltb at (length s) h, e)
 
 pub piece_some : (b : ℕ) (s : List ℕ) → 1 ≤ piece_length (b ∷ s)

@@ -26,13 +26,6 @@ pub struct Span {
     pub plain: bool,
 }
 
-// The next piece of a text, by the place behind it.
-#[derive(Clone, Copy)]
-pub enum Ahead {
-    Piece(usize),
-    Nothing,
-}
-
 // In two runs, which share six bytes: 16 divides the length of each, so that no byte is looked at alone.
 fn fields_printable(text: &[u8], at: usize) -> bool
     requires { at + 138 ≤ length text.now }
@@ -94,12 +87,12 @@ pub fn end(text: &[u8], at: usize) -> usize
     cut(text, at).end
 }
 
-// Any text, any place.
-pub fn next(text: &[u8], at: usize) -> Ahead
+// The place behind the next piece of a text, or that nothing is left. Any text, any place.
+pub fn next(text: &[u8], at: usize) -> Option<usize>
     ensures { Nexts text.now at result }
 {
     if text.len() <= at {
-        return Ahead::Nothing;
+        return None;
     }
-    Ahead::Piece(end(text, at))
+    Some(end(text, at))
 }
