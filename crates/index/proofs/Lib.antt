@@ -8,10 +8,6 @@ pub mod Chains
 pub mod Entering
 -- Stores that leave the index
 pub mod Keeping
--- Heads set to 0 one after another
-pub mod Clearing
--- The index built record by record
-pub mod Passing
 -- What a lookup and distinct keys mean, in words
 pub mod Meanings
 -- The earliest record with a key in the list of records

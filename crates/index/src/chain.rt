@@ -1,6 +1,6 @@
 // Lookup by key.
 ghost use Rattle.std.specs.Prelude.{◌≡◌, length};
-ghost use Rattle.index.specs.Searches.{earliest};
+ghost use Rattle.index.specs.Searches.{earliest, place_no};
 ghost use Rattle.index.specs.Tags.{bucket_of};
 ghost use Rattle.index.specs.Indexes.{Indexed, Falls};
 
@@ -15,13 +15,11 @@ fn is_long(nexts: &[u16], first: usize) -> bool
     requires { Falls nexts.now first }
 {
     let mut at = first;
-    let mut left = LINKS;
-    while 0 < left {
+    for _ in 0..LINKS {
         if at == 0 {
             return false;
         }
         at = nexts[at - 1] as usize;
-        left -= 1;
     }
     0 < at
 }
@@ -35,25 +33,25 @@ fn walk(
     nexts: &[u16],
     b: usize,
     key: &[u8],
-) -> usize
+) -> Option<usize>
     requires indexed { Indexed keys t.now n heads.now nexts.now }
     requires key_len { length key.now ≡ keys.width }
     requires b_value { b ≡ bucket_of (length heads.now) key.now }
-    ensures { result ≡ earliest keys t.now n key.now }
+    ensures { place_no result ≡ earliest keys t.now n key.now }
 {
-    let mut best: usize = 0;
+    let mut best = None;
     let mut at = heads[b] as usize;
     while 0 < at {
         let i = at - 1;
         if section::same(t, keys, i, key) {
-            best = at;
+            best = Some(i);
         }
         at = nexts[i] as usize;
     }
     best
 }
 
-// One more than the earliest of the first n records with the key, or 0; by the key's bucket.
+// The earliest of the first n records with the key, by the key's bucket.
 pub fn find_in(
     t: &[u8],
     keys: Section,
@@ -62,11 +60,11 @@ pub fn find_in(
     nexts: &[u16],
     b: usize,
     key: &[u8],
-) -> usize
+) -> Option<usize>
     requires indexed { Indexed keys t.now n heads.now nexts.now }
     requires key_len { length key.now ≡ keys.width }
     requires b_value { b ≡ bucket_of (length heads.now) key.now }
-    ensures { result ≡ earliest keys t.now n key.now }
+    ensures { place_no result ≡ earliest keys t.now n key.now }
 {
     if is_long(nexts, heads[b] as usize) {
         return scanning::scan(t, keys, n, key);
@@ -75,10 +73,17 @@ pub fn find_in(
 }
 
 // The same, for a caller that does not know the bucket.
-pub fn find(t: &[u8], keys: Section, n: usize, heads: &[u16], nexts: &[u16], key: &[u8]) -> usize
+pub fn find(
+    t: &[u8],
+    keys: Section,
+    n: usize,
+    heads: &[u16],
+    nexts: &[u16],
+    key: &[u8],
+) -> Option<usize>
     requires indexed { Indexed keys t.now n heads.now nexts.now }
     requires key_len { length key.now ≡ keys.width }
-    ensures { result ≡ earliest keys t.now n key.now }
+    ensures { place_no result ≡ earliest keys t.now n key.now }
 {
     find_in(t, keys, n, heads, nexts, tag::bucket(key, heads.len()), key)
 }

@@ -15,7 +15,7 @@ fn is_earliest(t: &[u8], keys: Section, n: usize, heads: &[u16], nexts: &[u16], 
 {
     let at = section::start(t, keys, i);
     let end = at + keys.width;
-    chain::find(t, keys, n, heads, nexts, &t[at..end]) == i + 1
+    chain::find(t, keys, n, heads, nexts, &t[at..end]) == Some(i)
 }
 
 // Whether no two of the first n records have one key. Asked of the index that is there, so that building it is no dearer for a caller that does not ask.
@@ -24,10 +24,8 @@ pub fn distinct(t: &[u8], keys: Section, n: usize, heads: &[u16], nexts: &[u16])
     ensures { result ≡ all_distinct keys t.now n }
 {
     let mut differ = true;
-    let mut i = 0;
-    while i < n {
-        differ = differ & is_earliest(t, keys, n, heads, nexts, i);
-        i += 1;
+    for i in 0..n {
+        differ &= is_earliest(t, keys, n, heads, nexts, i);
     }
     differ
 }

@@ -8,7 +8,6 @@ use crate::write::put_quote;
 use crate::{QUOTE, ROW};
 use quote::Quote;
 use section::Section;
-use slot::Place;
 
 // An index of the most rows that a table has, four buckets a row.
 const HEADS: usize = 512;
@@ -26,14 +25,14 @@ fn quotes(base: usize) -> Section
 }
 
 // The row of a quote among the first n.
-pub fn find(t: &[u8], base: usize, n: usize, q: Quote) -> Place
+pub fn find(t: &[u8], base: usize, n: usize, q: Quote) -> Option<usize>
     requires n_in_bounds { row_at base n ≤ length t.now }
     requires fits_quote { FitsQuote q }
     ensures { place_no result ≡ row_place q (rows_in base n t.now) }
 {
     let mut sought = [0u8; QUOTE];
     put_quote(&mut sought, 0, q);
-    slot::place_of(index::scan(t, quotes(base), n, &sought))
+    index::scan(t, quotes(base), n, &sought)
 }
 
 // Whether no two of the first n rows have one quote. By an index of them: pair by pair it would cost the square of n.

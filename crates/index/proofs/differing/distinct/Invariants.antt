@@ -1,10 +1,7 @@
 -- `index::differing::distinct` meets its contract: what was said so far is whether the records passed have keys that all differ.
-use Rattle.std.proofs.Common.{◌≡◌, ◌-◌, ◌≤◌}
+use Rattle.std.proofs.Common.{◌≡◌}
 use Rattle.index.specs.Searches.{all_distinct}
 use Rattle.index.proofs.differing.distinct.Given as goal
 
 abbrev pub invariant-loop-i : goal.invariant-loop-i
-invariant-loop-i l = (l.i ≤ l.n) × (l.differ ≡ all_distinct l.keys l.t l.i)
-
-abbrev pub decreases-loop-i : goal.decreases-loop-i
-decreases-loop-i l = l.n - l.i
+invariant-loop-i l = l.differ ≡ all_distinct l.keys l.t l.i

@@ -3,7 +3,7 @@ use Rattle.std.proofs.Common.{◌+◌, eqb, ap, ◌∙◌, rules}
 use Rattle.section.specs.Sections.{Inside}
 use Rattle.section.proofs.Places.{record_lent}
 use Rattle.index.specs.Searches.{earliest}
-use Rattle.index.proofs.Repeats.{own_earliest}
+use Rattle.index.proofs.Repeats.{own_earliest, place_alike}
 use Rattle.index.proofs.differing.is_earliest.Goals as goal
 use Rattle.index.proofs.differing.is_earliest.Goals.{Start}
 
@@ -23,5 +23,7 @@ slice_bounds-find-end c = search (rules, there (goal.at.slice_bounds-find-end c)
 pub returns : goal.returns
 returns c =
     let a = c.args in
-    ap (λ r. eqb r (a.i + 1)) (c.find.ensures ∙ ap (earliest a.keys a.t.now a.n) (record_lent a.keys a.t.now a.i c.start-at.result c.start-at.ensures))
+    c.eq.ensures
+    ∙ place_alike c.find.result a.i
+    ∙ ap (λ r. eqb r (a.i + 1)) (c.find.ensures ∙ ap (earliest a.keys a.t.now a.n) (record_lent a.keys a.t.now a.i c.start-at.result c.start-at.ensures))
     ∙ own_earliest a.keys a.t.now a.n a.i c.requires.i_lt_n

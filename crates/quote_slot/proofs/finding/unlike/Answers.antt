@@ -10,5 +10,5 @@ build-requires c =
 pub returns : goal.returns
 returns c =
     let s = c.args.t.now in
-    let bytes = all_bytes s (λ i. omega (arith, c.shared_slice_known-1.given i)) in
+    let bytes = all_bytes s (λ i. omega (arith, c.type_inv.t i)) in
     unlike_told c.quotes-keys.ensures s c.args.n c.requires.n_in_bounds bytes c.distinct.ensures

@@ -1,5 +1,4 @@
 -- `slot::finding::find` meets its contract: the earliest record with the key is the place of its order.
-use mathlib.Core.Path.{◌∙◌}
 use Rattle.slot.proofs.Keyed.{keys_held, key_wide, found_place}
 use Rattle.slot.proofs.finding.find.Goals as goal
 
@@ -10,5 +9,4 @@ scan-requires c =
 
 pub returns : goal.returns
 returns c =
-    c.place_of.ensures
-    ∙ found_place c.keys.ensures c.args.t.now c.args.n c.args.key.now c.requires.key_len c.scan.ensures
+    found_place c.keys.ensures c.args.t.now c.args.n c.args.key.now c.requires.key_len c.scan.ensures

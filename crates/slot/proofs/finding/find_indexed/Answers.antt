@@ -12,5 +12,4 @@ find_in-requires c =
 
 pub returns : goal.returns
 returns c =
-    c.place_of.ensures
-    ∙ found_place c.keys.ensures c.args.t.now c.args.n c.args.key.now c.requires.key_len c.find_in.ensures
+    found_place c.keys.ensures c.args.t.now c.args.n c.args.key.now c.requires.key_len c.find_in.ensures
