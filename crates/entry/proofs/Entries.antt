@@ -26,42 +26,6 @@ use Rattle.saved.specs.Entries.{entry_in, if_sound, order_from}
 use Rattle.saved.proofs.Heads.{head_forth}
 use Rattle.entry.specs.Reads.{found, parted, sound_only, size_in}
 
--- ---- an entry
-
--- where no head is found there is no entry
-pub no_entry : (w n at : ℕ) (s : List ℕ) → None ≡ found (head_in w (drop at s)) → None ≡ taken_at at (entry_in parted w n (drop at s))
-no_entry w n at s e = go (head_in w (drop at s)) e
-  where
-    go : (t : Taken Quote) → None ≡ found t → None ≡ taken_at at (behind t (λ q u. behind (list_in number_in n (drop u (drop at s))) (λ vs v. taken (parted q vs) (u + v))))
-    go none h = refl
-    go (taken q u) h = cc
-
--- what a head that is found says
-found_head : (w at : ℕ) (s : List ℕ) (q : Quote) → Some q ≡ found (head_in w (drop at s))
-    → (head_in w (drop at s) ≡ taken q (head_width w)) × (head_width w ≤ length (drop at s))
-found_head w at s q e = go (head_in w (drop at s)) refl e
-  where
-    go : (t : Taken Quote) → head_in w (drop at s) ≡ t → Some q ≡ found t → (head_in w (drop at s) ≡ taken q (head_width w)) × (head_width w ≤ length (drop at s))
-    go none p h = cc
-    go (taken x u) p h =
-        let r = head_forth w (drop at s) x u p in
-        let same : q ≡ x = cc in
-        (p ∙ ap₂ taken (sym same) r.width, r.inside)
-
-pub numbers_inside : (w at : ℕ) (s : List ℕ) (q : Quote) → at ≤ length s → Some q ≡ found (head_in w (drop at s)) → at + (25 + w) ≤ length s
-numbers_inside w at s q h e = omega (arith, (found_head w at s q e).1, length-drop at s)
-
--- numbers that are read behind a head
-pub entry_read : (w n at : ℕ) (s before after : List ℕ) (q : Quote) (next : Option ℕ) → Some q ≡ found (head_in w (drop at s)) → length before ≡ n
-    → ReadsAll s (at + (25 + w)) before next after → option_map (λ (end : ℕ). ((q, after), end)) next ≡ taken_at at (entry_in parted w n (drop at s))
-entry_read w n at s before after q next e l r =
-    rw (← l, r.said, (found_head w at s q e).0, drop-drop (head_width w) at s) (go (list_in number_in (length before) (drop (at + (25 + w)) s)) refl)
-  where
-    go : (t : Taken (List ℕ)) → list_in number_in (length before) (drop (at + (25 + w)) s) ≡ t
-        → option_map (λ (end : ℕ). ((q, after), end)) (end_at (at + (25 + w)) t) ≡ taken_at at (behind t (λ vs v. taken (parted q vs) (head_width w + v)))
-    go none p = refl
-    go (taken vs v) p = rw (r.values vs v p, add_assoc at (head_width w) v)
-
 -- ---- what is made of an entry
 
 abbrev remade : {A : Type 0} → (Quote → List ℕ → A) → Taken (Quote × List ℕ) → Taken A
@@ -100,15 +64,8 @@ made_at {A} sound make w n at s = rw (made_of make w n s) (go (entry_in parted w
 
 -- ---- the size of an order
 
-abbrev pub small : (e c p l : ℕ) → Bool
+abbrev small : (e c p l : ℕ) → Bool
 small e c p l = leb e 999999 && leb c 999999 && leb p 999999 && leb l 999999
-
-pub parts_small : (e c p l : ℕ) → small e c p l ≡ true → (e ≤ 999999) × (c ≤ 999999) × (p ≤ 999999) × (l ≤ 999999)
-parts_small e c p l h =
-    let r = both (leb e 999999 && leb c 999999 && leb p 999999) (leb l 999999) h in
-    let q = both (leb e 999999 && leb c 999999) (leb p 999999) r.0 in
-    let d = both (leb e 999999) (leb c 999999) q.0 in
-    (leb-true e 999999 d.0, leb-true c 999999 d.1, leb-true p 999999 q.1, leb-true l 999999 r.1)
 
 -- parts of which one is above any size are above it together
 sum_large : (e c p l : ℕ) → small e c p l ≡ false → 999999 < e + c + p + l

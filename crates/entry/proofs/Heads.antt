@@ -11,6 +11,7 @@ use lib.ListN.{length, get_or, take, drop, replicate, length-drop, length-replic
 use lib.Seq.{sets, take_all, drop-drop, get_or-take, get_or-drop}
 use Rattle.std.specs.Prelude.{Option, Some, None}
 use Rattle.std.specs.Option.{option_map}
+use Rattle.std.proofs.lemmas.List.{drop-replicate}
 use Rattle.run.specs.Runs.{part}
 use Rattle.run.proofs.Parts.{get_d_part, length_part}
 use Rattle.run.proofs.Stores.{sets_start}
@@ -27,18 +28,11 @@ use Rattle.entry.specs.Reads.{found, key_from}
 
 -- ---- a key
 
-drop_replicate : (n m b : ℕ) → n ≤ m → drop n (replicate {A = ℕ} m b) ≡ replicate (m - n) b
-drop_replicate zero m b h = rw sub-zero
-drop_replicate (suc n) zero b h = absurd (omega arith)
-drop_replicate (suc n) (suc m) b h =
-    let left : m - n ≡ suc m - suc n = omega arith in
-    drop_replicate n m b (omega arith) ∙ ap (λ k. replicate {A = ℕ} k b) left
-
 -- a name stored over spaces
-pub name_padded : (w : ℕ) (name : List ℕ) → w ≤ 20 → length name ≡ w → sets (replicate 20 32) 0 name ≡ name ++ replicate (20 - w) 32
+name_padded : (w : ℕ) (name : List ℕ) → w ≤ 20 → length name ≡ w → sets (replicate 20 32) 0 name ≡ name ++ replicate (20 - w) 32
 name_padded w name h e =
     sets_start (replicate 20 32) name (omega (arith, length-replicate {A = ℕ} 20 32))
-    ∙ ap (λ (l : List ℕ). name ++ l) (ap (λ (n : ℕ). drop n (replicate {A = ℕ} 20 32)) e ∙ drop_replicate w 20 32 h)
+    ∙ ap (λ (l : List ℕ). name ++ l) (ap (λ (n : ℕ). drop n (replicate {A = ℕ} 20 32)) e ∙ drop-replicate w 20 32)
 
 pub key_made : (w : ℕ) (b source token : List ℕ) → w ≤ 20 → 6 + w ≤ length b → source ≡ part b 0 6
     → token ≡ sets (replicate 20 32) 0 (take (6 + w - 6) (drop 6 b)) → record { source = source; token = token } ≡ key_from w b
@@ -85,12 +79,6 @@ head_said w b long =
         ≡ option_map (λ (x : Series). record { key = key_from w b; side = get_or (take 1 (drop w (drop 6 b))) 0 0; series = x }) (found t)
     go none = refl
     go (taken x n) = refl
-
--- too few bytes are no head
-pub no_head : (w at : ℕ) (s : List ℕ) → length s - at < 25 + w → None ≡ found (head_in w (drop at s))
-no_head w at s h =
-    let short : ltb (length (drop at s)) (head_width w) ≡ true = lt-ltb (length (drop at s)) (head_width w) (omega (arith, length-drop at s)) in
-    rw short
 
 pub head_there : (w at : ℕ) (s : List ℕ) → (length s - at < 25 + w → ⊥)
     → head_from w (cut (head_widths w) (take (at + (25 + w) - at) (drop at s))) ≡ head_in w (drop at s)

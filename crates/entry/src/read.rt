@@ -18,11 +18,12 @@ fn key_in(b: &[u8], w: usize) -> Key
     requires w_in_bounds { 6 + w ≤ length b.now }
     ensures { result ≡ key_from w b.now }
 {
-    let mut source = [0u8; 6];
-    run::copy(&mut source, &b[0..6]);
     let mut token = [b' '; 20];
     run::store(&mut token, 0, &b[6..6 + w]);
-    Key { source, token }
+    Key {
+        source: run::array(b, 0),
+        token,
+    }
 }
 
 // b is the 18 bytes of a series, or others as many.
@@ -34,10 +35,8 @@ fn series_in(b: &[u8]) -> Option<Series>
     let year = digits::exactly(&b[9..11], 0, layout::LAST_YEAR)?;
     let least = layout::least_strike(b[11]);
     let strike = digits::exactly(&b[12..18], least, layout::MOST_STRIKE)?;
-    let mut root = [0u8; 6];
-    run::copy(&mut root, &b[0..6]);
     Some(Series {
-        root,
+        root: run::array(b, 0),
         month: b[6],
         date,
         year,

@@ -71,9 +71,6 @@ number_most k v h m l = groups_most most_groups k v h l
 pub number_ten : (v : ℕ) → length (number_bytes v) ≤ 10
 number_ten v = groups_upto most_groups v
 
-pub number_some : (v : ℕ) → 1 ≤ length (number_bytes v)
-number_some v = groups_some 9 v
-
 -- ---- what is written is read back
 
 groups_back : (k v : ℕ) (s : List ℕ) → 0 < k → v < 128 ^ k → groups_in k (groups_of k v ++ s) ≡ taken v (length (groups_of k v))

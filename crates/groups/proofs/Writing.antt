@@ -21,18 +21,6 @@ pub record Putting (before : List ℕ) (at v : ℕ) (out : List ℕ) (rest i : �
   pub ends : i + length (groups_of (10 - (i - at)) rest) ≡ at + length (number_bytes v)
   pub same_end : sets out i (groups_of (10 - (i - at)) rest) ≡ sets before at (number_bytes v)
 
-pub put_first : (before : List ℕ) (at v : ℕ) → v < 2 ^ 64 → Putting before at v before v at
-put_first before at v h =
-    let start : at - at ≡ 0 = sub_self at in
-    record {
-      from = omega arith;
-      few = omega arith;
-      small = rw start (omega arith);
-      long = refl;
-      ends = rw start;
-      same_end = rw start;
-    }
-
 module _ {before : List ℕ} {at v : ℕ} {out : List ℕ} {rest i : ℕ} (g : Putting before at v out rest i) where
   -- one group is left, or it and others
   left : 10 - (i - at) ≡ suc (9 - (i - at))
@@ -43,13 +31,6 @@ module _ {before : List ℕ} {at v : ℕ} {out : List ℕ} {rest i : ℕ} (g : P
 
   left_more : 128 ≤ rest → groups_of (10 - (i - at)) rest ≡ (128 + rest % 128) ∷ groups_of (9 - (i - at)) (rest / 128)
   left_more h = rw left (written_more (9 - (i - at)) rest h)
-
-  -- there is room for a group more
-  pub put_room : at + length (number_bytes v) ≤ length before → i < length out
-  put_room h =
-      let some = groups_some (9 - (i - at)) rest in
-      let ends = rw left at g.ends in
-      omega (arith, g.long)
 
   pub put_next : 128 ≤ rest → Putting before at v (set out i (128 + rest % 128)) (rest / 128) (i + 1)
   put_next h =

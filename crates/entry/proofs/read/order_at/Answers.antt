@@ -5,15 +5,11 @@ use Rattle.saved.specs.Entries.{order_from}
 use Rattle.entry.proofs.Entries.{made_at}
 use Rattle.entry.proofs.read.order_at.Goals as goal
 
-pub returns-in_err-quote : goal.returns-in_err-quote
-returns-in_err-quote c =
-    let a = c.args in
-    rw (c.from_residual.ensures, made_at sound_order order_from 20 7 a.at (drop a.at a.s.now), ← c.in_err-quote.ensures)
-
 pub returns-in_err-order_from : goal.returns-in_err-order_from
 returns-in_err-order_from c =
     let a = c.args in
-    rw (c.from_residual-in_err-order_from.ensures, made_at sound_order order_from 20 7 a.at (drop a.at a.s.now), ← c.in_ok-quote.ensures, ← c.in_err-order_from.ensures)
+    rw
+    (c.from_residual-in_err-order_from.ensures, made_at sound_order order_from 20 7 a.at (drop a.at a.s.now), ← c.in_ok-quote.ensures, ← c.in_err-order_from.ensures)
 
 pub returns : goal.returns
 returns c =
