@@ -41,12 +41,6 @@ module _ {s : List ℕ} {at n : ℕ} {flags : List ℕ} {place i : ℕ} (g : Che
   count : length g.those ≡ i
   count = length_list_in saved_order_in i (drop at s) g.those (place - at) g.reading.so_far
 
-  pub place_inside : i < n → n ≤ 512 → i + 1 < room_in flags
-  place_inside h few = omega (arith, g.seen.room)
-
-  pub elder_inside : i < n → n ≤ 512 → (e : ℕ) → may_follow flags i e ≡ true → e < room_in flags
-  elder_inside h few e f = omega (arith, g.seen.room, follower_early flags i e f)
-
   module _ (h : i < n) where
     pub no_order : None ≡ taken_at place (saved_order_in (drop place s)) → None ≡ whole_end s at n
     no_order e = sym (rw (read_stop saved_order_in g.reading e n h))
