@@ -98,9 +98,6 @@ module _ (keys : Section) (s : List ℕ) (n : ℕ) (heads nexts key : List ℕ) 
         let less : at - 1 < n = omega (arith, w.within) in
         omega (arith, x.chains (at - 1) less, latest_most f (at - 1) (f (at - 1)))
 
-  pub walk_end : {best : Option ℕ} {at : ℕ} → Walked best at → at ≤ 0 → place_no best ≡ earliest keys s n key
-  walk_end {best} {at} w l = let none : at ≡ 0 = omega arith in sym (w.kept ∙ rw none)
-
 -- ---- what a bucket leads to
 
 pub chain_falls : {keys : Section} {s : List ℕ} {n : ℕ} {heads nexts : List ℕ} → Indexed keys s n heads nexts → (b : ℕ) → b < length heads

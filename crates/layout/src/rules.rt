@@ -4,8 +4,10 @@ ghost use Rattle.message.specs.Rule.{code, text, verbatim as rule_verbatim};
 ghost use Rattle.layout.specs.Layout.{is_trade, liquidities, least_strike};
 ghost use Rattle.layout.specs.Strikes.{lawful_strike};
 ghost use Rattle.layout.specs.ByType.{bytes_on, id_on};
+ghost use Rattle.layout.specs.Kept.{kept};
 
 use field::{digits, verbatim};
+use refusal::Refusal;
 
 // A line in bytes, CR LF included, and its fields alone.
 pub const LINE: usize = 140;
@@ -114,4 +116,15 @@ pub fn lawful_strike(denominator: u8, digits: u64) -> bool
     ensures { result ≡ lawful_strike denominator digits }
 {
     within(digits, least_strike(denominator), MOST_STRIKE)
+}
+
+// A field that keeps its rule, or the refusal that names it.
+pub fn keep(lawful: bool, field: u8) -> Result<(), Refusal>
+    ensures { result ≡ kept lawful field }
+{
+    if lawful {
+        Ok(())
+    } else {
+        Err(Refusal::Field(field))
+    }
 }

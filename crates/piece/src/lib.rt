@@ -1,7 +1,8 @@
 // The pieces of a text, one after another. What a piece says is not known here.
 #![tactic(auto)]
 
-ghost use Rattle.std.specs.Prelude.{◌+◌, ◌≤◌, ◌≡◌, true, length, take, drop};
+ghost use Rattle.std.specs.Prelude.{◌+◌, ◌≤◌, ◌<◌, ◌≡◌, IfSome, true, length, nat_eq, take, drop};
+ghost use Rattle.std.specs.List.{position_from};
 ghost use Rattle.run.specs.Runs.{all};
 ghost use Rattle.field.specs.Byte.{is_of};
 ghost use Rattle.field.specs.declared.Class.TheVariants.{Printable};
@@ -52,18 +53,21 @@ fn is_plain(text: &[u8], at: usize) -> bool
     fields_printable(text, at)
 }
 
+fn first_lf(s: &[u8]) -> Option<usize>
+    ensures first { result ≡ position_from (λ b. nat_eq b 10) 0 s.now }
+    ensures inside { IfSome result (λ i. i < length s.now) }
+{
+    s.iter().position(|b| *b == LF)
+}
+
 fn end_by_bytes(text: &[u8], at: usize) -> usize
     requires { at ≤ length text.now }
     ensures { result ≡ at + piece_length (drop at text.now) }
 {
-    let mut i = at;
-    while i < text.len() {
-        if text[i] == LF {
-            return i + 1;
-        }
-        i += 1;
+    match first_lf(&text[at..]) {
+        Some(i) => at + i + 1,
+        None => text.len(),
     }
-    i
 }
 
 // The piece that starts at a place.

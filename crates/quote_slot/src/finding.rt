@@ -6,6 +6,7 @@ ghost use Rattle.quote_slot.specs.QuoteSlots.{row_at, row_quotes, rows_in, FitsQ
 
 use crate::write::put_quote;
 use crate::{QUOTE, ROW};
+use index::Index;
 use quote::Quote;
 use section::Section;
 
@@ -45,5 +46,12 @@ pub fn unlike(t: &[u8], base: usize, n: usize) -> bool
     let mut heads = [0u16; HEADS];
     let mut nexts = [0u16; NEXTS];
     index::build(t, keys, n, &mut heads, &mut nexts);
-    index::distinct(t, keys, n, &heads, &nexts)
+    let index = Index {
+        t,
+        keys,
+        n,
+        heads: &heads,
+        nexts: &nexts,
+    };
+    index.distinct()
 }

@@ -7,6 +7,7 @@ ghost use Rattle.slot.specs.Slots.{key_in};
 ghost use Rattle.slot.specs.Places.{slot_at, slot_keys, orders_in, place_no};
 
 use crate::{HEADER, KEY, SLOT};
+use index::Index;
 use section::Section;
 
 // The keys of a table's orders: what their index is built and kept over.
@@ -45,5 +46,12 @@ pub fn find_indexed(
     ensures { place_no result ≡ place (key_in key.now) (orders_in 0 n t.now) }
 {
     // A part whose length the compiler knows, as above.
-    index::find_in(t, keys(), n, heads, nexts, b, &key[0..KEY])
+    let index = Index {
+        t,
+        keys: keys(),
+        n,
+        heads,
+        nexts,
+    };
+    index.find_in(b, &key[0..KEY])
 }

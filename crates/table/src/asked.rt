@@ -6,10 +6,9 @@ ghost use Rattle.table.specs.Promises.{Copies, CopiesOf, CopiesRow, LooksUp};
 ghost use Rattle.table.specs.Tables.{sound};
 
 use crate::{damage, header};
-use quote_slot::ROW;
 use refusal::Refusal;
 use section::Section;
-use slot::{HEADER, KEY, SLOT};
+use slot::KEY;
 
 fn undamaged(t: &[u8]) -> Result<(), Refusal>
     ensures { MatchResult result (λ _. sound t.now ≡ true) (λ e. (sound t.now ≡ false) × (e ≡ Damaged)) }
@@ -37,15 +36,13 @@ fn copy(t: &[u8], c: Section, n: usize, i: usize, out: &mut [u8]) -> Result<(), 
     requires holds { Holds c t.now n }
     ensures { CopiesOf c n t.now i out.old result out.new }
 {
-    let width = c.width;
-    if out.len() < width {
+    if out.len() < c.width {
         return Err(Refusal::NoRoom);
     }
     if n <= i {
         return Err(Refusal::UnknownKey);
     }
-    let at = section::start(t, c, i);
-    run::store(out, 0, &t[at..at + width]);
+    run::store(out, 0, section::record(t, c, i));
     Ok(())
 }
 
@@ -54,12 +51,7 @@ pub fn copy_order(t: &[u8], i: usize, out: &mut [u8]) -> Result<(), Refusal>
     ensures { Copies t.now i out.old result out.new }
 {
     undamaged(t)?;
-    let slots = Section {
-        first: HEADER,
-        step: SLOT,
-        width: SLOT,
-    };
-    copy(t, slots, header::count(t) as usize, i, out)
+    copy(t, slot::slots(), header::count(t) as usize, i, out)
 }
 
 // The 49 bytes of a quote row as they stand (docs/LAYOUT.md).
@@ -67,10 +59,6 @@ pub fn copy_row(t: &[u8], i: usize, out: &mut [u8]) -> Result<(), Refusal>
     ensures { CopiesRow t.now i out.old result out.new }
 {
     undamaged(t)?;
-    let rows = Section {
-        first: header::base(t.len()),
-        step: ROW,
-        width: ROW,
-    };
+    let rows = quote_slot::rows(header::base(t.len()));
     copy(t, rows, header::row_count(t), i, out)
 }

@@ -1,7 +1,0 @@
--- `index::differing::distinct` meets its contract: what was said so far is whether the records passed have keys that all differ.
-use Rattle.std.proofs.Common.{◌≡◌}
-use Rattle.index.specs.Searches.{all_distinct}
-use Rattle.index.proofs.differing.distinct.Given as goal
-
-abbrev pub invariant-loop-i : goal.invariant-loop-i
-invariant-loop-i l = l.differ ≡ all_distinct l.keys l.t l.i
