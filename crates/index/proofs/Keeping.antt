@@ -31,10 +31,6 @@ module _ {keys : Section} {s : List ℕ} {n : ℕ} {heads nexts : List ℕ} (x :
   pub index_front : (at : ℕ) → at + length xs ≤ keys.first → Indexed keys (sets s at xs) n heads nexts
   index_front at h = index_kept (sym (length-sets s at xs)) (λ i l. sym (kept_front keys s xs at h i)) x
 
-  -- between two keys, as into a record behind its key
-  pub index_gap : (at j : ℕ) → start_of keys j + keys.width ≤ at → at + length xs ≤ start_of keys (j + 1) → Indexed keys (sets s at xs) n heads nexts
-  index_gap at j h k = index_kept (sym (length-sets s at xs)) (λ i l. sym (kept_gap keys s xs at j h k i)) x
-
   -- behind them all, as into a section that follows
   pub index_past : (at : ℕ) → start_of keys n + keys.width ≤ at + keys.step → Indexed keys (sets s at xs) n heads nexts
   index_past at h = index_kept (sym (length-sets s at xs)) (λ i l. sym (kept_past keys s xs at n h i l)) x

@@ -4,7 +4,7 @@ pub mod Tagging
 pub mod Firsts
 -- A walk down a chain finds the earliest record
 pub mod Chains
--- The empty index, and one record more
+-- One record more
 pub mod Entering
 -- Stores that leave the index
 pub mod Keeping

@@ -26,8 +26,3 @@ own_earliest keys s n i l = first_own (has_key keys s (record_of keys s i)) n i 
 pub place_alike : (p : Option ℕ) (i : ℕ) → option_eq eqb p (Some i) ≡ eqb (place_no p) (i + 1)
 place_alike None i = rw (add-one i) (sym (eqb-zero-suc i))
 place_alike (Some j) i = rw (add-one j, add-one i) (sym (eqb-suc-suc j i))
-
--- one record more, r being whether it is the earliest with its key
-pub distinct_next : (keys : Section) (s : List ℕ) (i : ℕ) {differ r : Bool} → differ ≡ all_distinct keys s i
-    → r ≡ eqb (earliest keys s i (record_of keys s i)) 0 → (differ && r) ≡ all_distinct keys s (i + 1)
-distinct_next keys s i e h = rw (e, h, add-one i)

@@ -79,12 +79,6 @@ pub key_whole : (key : List ℕ) → length key ≡ 26 → take 26 key ≡ key
 key_whole key e = take_all 26 key (omega arith)
 
 module _ {keys : Section} (q : keys ≡ slot_keys) where
-  pub keys_held : (s : List ℕ) (n : ℕ) → slot_at n ≤ length s → Holds keys s n
-  keys_held s n h = let held : Holds slot_keys s n = record { apart = omega arith; inside = λ i l. omega arith } in rw q held
-
-  pub key_wide : (key : List ℕ) → length key ≡ 26 → length (take 26 key) ≡ keys.width
-  key_wide key e = rw (key_whole key e, q) e
-
   pub found_place : (s : List ℕ) (n : ℕ) (key : List ℕ) → length key ≡ 26 → {found : ℕ} → found ≡ earliest keys s n (take 26 key)
       → found ≡ place (key_in key) (orders_in 0 n s)
   found_place s n key e f = f ∙ rw (key_whole key e, q) (earliest_place s n key e)

@@ -25,7 +25,3 @@ nobody_found k os e = find_none (key_places k) (key_finds k) os e
 -- the answer of a search for k, q being what it is known to be
 pub place_known : (os : List Order) (p q : Option ℕ) (k l : Key) → place_no p ≡ place k os → p ≡ q → k ≡ l → place l os ≡ place_no q
 place_known os p q k l e f g = sym (ap (λ x. place x os) g) ∙ sym e ∙ ap place_no f
-
--- the same of a search among the first n
-pub place_is : (s : List ℕ) (p q : Option ℕ) (k : Key) (n m : ℕ) → place_no p ≡ place k (orders_in 0 n s) → p ≡ q → n ≡ m → place k (orders_in 0 m s) ≡ place_no q
-place_is s p q k n m e f h = sym (ap (λ i. place k (orders_in 0 i s)) h) ∙ place_known (orders_in 0 n s) p q k k e f refl

@@ -2,15 +2,8 @@
 use Prim.Native.Nat.{ℕ}
 use native.Mathlib.Omega.{arith}
 use lib.ListN.{replicate, length-replicate}
-use Rattle.quote_slot.proofs.Alike.{all_bytes, quotes_held, run_wide, found_row}
+use Rattle.quote_slot.proofs.Alike.{all_bytes, found_row}
 use Rattle.quote_slot.proofs.finding.find.Goals as goal
-
-pub scan-requires : goal.scan-requires
-scan-requires c =
-    let s = c.args.t.now in
-    let k = c.quotes.ensures in
-    let bytes = all_bytes s (λ i. omega (arith, c.type_inv.t i)) in
-    record { holds = quotes_held k s c.args.n c.requires.n_in_bounds; key_len = run_wide k s c.args.n c.requires.n_in_bounds bytes c.args.q c.requires.fits_quote (replicate 41 0) _ (length-replicate {A = ℕ} 41 0) c.put_quote.ensures }
 
 pub returns : goal.returns
 returns c =
