@@ -1,17 +1,14 @@
 -- A head and numbers say what an entry is, and an entry what is made of it.
-use Prim.Native.Nat.{ℕ, ◌+◌, ◌≤◌, ◌<◌}
-use native.Mathlib.Nat.{add_assoc}
+use Prim.Native.Nat.{ℕ, ◌+◌, ◌<◌}
 use native.Mathlib.Omega.{arith}
-use mathlib.Core.Path.{◌≡◌, refl, sym, ap, ap₂, ◌∙◌}
-use mathlib.Core.Bool.{Bool, true, false, cond, ◌&&◌, and-false, true≢false, false≢true}
+use mathlib.Core.Path.{◌≡◌, refl, sym, ap, ◌∙◌}
+use mathlib.Core.Bool.{Bool, true, false, cond, ◌&&◌, and-false, false≢true}
 use mathlib.Core.List.{List}
 use borrow.Author.Tests.{leb-true, leb-false, le-leb, lt-leb}
 use lib.Dec.{leb, eqb}
-use lib.ListN.{length, get_or, drop, length-drop}
-use lib.Seq.{drop-drop}
-use Rattle.std.specs.Prelude.{Option, Some, None}
+use lib.ListN.{get_or, drop}
+use Rattle.std.specs.Prelude.{Some, None}
 use Rattle.std.specs.Option.{option_map, option_and_then}
-use Rattle.run.proofs.Tests.{both}
 use Rattle.message.specs.Rule.{num}
 use Rattle.message.specs.Values.{one}
 use Rattle.layout.specs.Layout.{keeps_rule}
@@ -20,11 +17,10 @@ use Rattle.order.specs.declared.Figures.{Figures}
 use Rattle.order.specs.declared.Order.{Order}
 use Rattle.quote.specs.declared.Quote.{Quote}
 use Rattle.groups.specs.Taken.{Taken, none, taken, behind, list_in}
-use Rattle.groups.specs.Groups.{ReadsAll, end_at, number_in, taken_at}
-use Rattle.saved.specs.Heads.{head_width, head_in}
+use Rattle.groups.specs.Groups.{number_in, taken_at}
+use Rattle.saved.specs.Heads.{head_in}
 use Rattle.saved.specs.Entries.{entry_in, if_sound, order_from}
-use Rattle.saved.proofs.Heads.{head_forth}
-use Rattle.entry.specs.Reads.{found, parted, sound_only, size_in}
+use Rattle.entry.specs.Reads.{parted, sound_only, size_in}
 
 -- ---- what is made of an entry
 

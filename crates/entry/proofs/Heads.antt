@@ -1,15 +1,13 @@
 -- The parts of a head, read one by one, say what stands there.
-use Prim.Native.Nat.{ℕ, zero, suc, ◌+◌, ◌-◌, ◌≤◌, ◌<◌}
-use native.Mathlib.Nat.{sub-zero}
+use Prim.Native.Nat.{ℕ, ◌+◌, ◌-◌, ◌≤◌, ◌<◌}
 use native.Mathlib.Omega.{arith}
-use mathlib.Core.Path.{◌≡◌, refl, sym, ap, subst, ◌∙◌}
-use mathlib.Core.Bool.{Bool, true, false, ◌&&◌}
+use mathlib.Core.Path.{◌≡◌, refl, sym, ap, ◌∙◌}
+use mathlib.Core.Bool.{false}
 use mathlib.Core.List.{List, [], ◌∷◌, ◌++◌}
-use borrow.Author.Tests.{lt-ltb, le-ltb}
+use borrow.Author.Tests.{le-ltb}
 use lib.Dec.{ltb}
 use lib.ListN.{length, get_or, take, drop, replicate, length-drop, length-replicate}
 use lib.Seq.{sets, take_all, drop-drop, get_or-take, get_or-drop}
-use Rattle.std.specs.Prelude.{Option, Some, None}
 use Rattle.std.specs.Option.{option_map}
 use Rattle.std.proofs.lemmas.List.{drop-replicate}
 use Rattle.run.specs.Runs.{part}
@@ -18,9 +16,7 @@ use Rattle.run.proofs.Stores.{sets_start}
 use Rattle.field.specs.Number.{digits}
 use Rattle.message.specs.Rule.{got_number}
 use Rattle.layout.specs.Layout.{least_strike}
-use Rattle.order.specs.declared.Key.{Key}
 use Rattle.order.specs.declared.Series.{Series}
-use Rattle.quote.specs.declared.Quote.{Quote}
 use Rattle.groups.specs.Taken.{Taken, none, taken, behind}
 use Rattle.saved.specs.Heads.{cut, series_widths, head_widths, head_width, on_number, series_from, quote_from, head_from, head_in}
 use Rattle.saved.proofs.Cuts.{total, cut_take}
