@@ -14,34 +14,32 @@ use slot::Asked;
 pub fn is_new(event: Event) -> bool
     ensures { result ≡ is_new event }
 {
-    record::type_of(event) == b'A'
+    matches!(event, Event::Accepted)
 }
 
 pub fn is_maker(event: Event) -> bool
     ensures { result ≡ is_maker event }
 {
-    let t = record::type_of(event);
-    (t == b'A') | layout::is_replace(t)
+    matches!(event, Event::Accepted | Event::Replaced)
 }
 
 pub fn is_execution(event: Event) -> bool
     ensures { result ≡ is_execution event }
 {
-    record::type_of(event) == b'E'
+    matches!(event, Event::Executed(_))
 }
 
 // E and C.
 pub fn is_fill(event: Event) -> bool
     ensures { result ≡ is_fill event }
 {
-    let t = record::type_of(event);
-    (t == b'E') | (t == b'C')
+    matches!(event, Event::Executed(_) | Event::Broken(_))
 }
 
 pub fn is_replace(event: Event) -> bool
     ensures { result ≡ is_replace event }
 {
-    layout::is_replace(record::type_of(event))
+    matches!(event, Event::Replaced)
 }
 
 fn same_series(a: Series, b: Series) -> bool
@@ -68,14 +66,10 @@ pub fn not_open(a: Asked, r: Record) -> bool
     ensures { result ≡ not_open r (found (order_with a)) }
 {
     let left = a.figures.open;
-    let event = r.event;
-    match event {
-        Event::Accepted => false,
-        Event::Executed(_) => left < r.contracts,
-        Event::Cancelled => left < r.contracts,
-        Event::Broken(_) => false,
-        Event::Replaced => left == 0,
-        Event::Repriced => left == 0,
+    match r.event {
+        Event::Executed(_) | Event::Cancelled => left < r.contracts,
+        Event::Replaced | Event::Repriced => left == 0,
+        Event::Accepted | Event::Broken(_) => false,
     }
 }
 
@@ -84,13 +78,8 @@ pub fn not_executed(a: Asked, r: Record) -> bool
     ensures { result ≡ not_executed r (found (order_with a)) }
 {
     let unbroken = a.figures.executed - a.figures.broken;
-    let event = r.event;
-    match event {
-        Event::Accepted => false,
-        Event::Executed(_) => false,
-        Event::Cancelled => false,
+    match r.event {
         Event::Broken(_) => unbroken < r.contracts,
-        Event::Replaced => false,
-        Event::Repriced => false,
+        _ => false,
     }
 }
