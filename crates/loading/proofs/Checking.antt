@@ -9,15 +9,15 @@ use Rattle.std.specs.Prelude.{Option, Some, None}
 use Rattle.order.specs.Stored.{sound_order}
 use Rattle.order.specs.declared.Order.{Order}
 use Rattle.day.specs.Damage.{orders_undamaged}
-use Rattle.day.proofs.Undamaged.{Undamaged, whole_orders}
+use Rattle.day.proofs.Undamaged.{Undamaged}
 use Rattle.groups.specs.Taken.{Taken, none, taken, list_in}
 use Rattle.groups.specs.Groups.{taken_at}
 use Rattle.groups.proofs.Behind.{ReadTo, read_first, read_next, read_stop, read_further, one_there}
 use Rattle.groups.proofs.Lists.{further, length_list_in}
 use Rattle.saved.specs.Entries.{saved_order_in}
 use Rattle.saved.proofs.Savable.{order_inside, order_sound}
-use Rattle.table.specs.Passing.{Passes, room_in, may_follow}
-use Rattle.table.proofs.Following.{Seen, seen_none, undamaged_none, follower_early, undamaged_next, seen_next, seen_stops}
+use Rattle.table.specs.Passing.{Passes, may_follow}
+use Rattle.table.proofs.Following.{Seen, seen_none, undamaged_none, undamaged_next, seen_next, seen_stops}
 use Rattle.table.proofs.Limits.{most_limit}
 use Rattle.loading.specs.Loading.{end_of_orders}
 

@@ -2,10 +2,9 @@
 use Prim.Native.Nat.{ℕ, zero, suc, ◌+◌, ◌*◌, ◌≤◌, ◌<◌}
 use native.Mathlib.Omega.{arith}
 use mathlib.Core.Path.{◌≡◌, refl, sym, ap, ◌∙◌}
-use mathlib.Core.Bool.{true, false, and-false}
+use mathlib.Core.Bool.{true}
 use mathlib.Core.List.{List}
 use borrow.Author.Tests.{le-leb}
-use lib.Dec.{leb}
 use lib.ListN.{length, drop}
 use lib.Seq.{sets, length-sets}
 use Rattle.std.specs.Prelude.{Option, Some, None}
@@ -15,7 +14,7 @@ use Rattle.quote.specs.declared.QuoteRow.{QuoteRow}
 use Rattle.quote.proofs.Named.{row_number}
 use Rattle.groups.specs.Taken.{Taken, none, taken, ahead, behind, list_in}
 use Rattle.groups.specs.Groups.{taken_at, end_at}
-use Rattle.groups.proofs.Behind.{ReadTo, read_first, read_next, read_stop, read_end, one_there}
+use Rattle.groups.proofs.Behind.{ReadTo, read_next, read_stop, one_there}
 use Rattle.groups.proofs.Lists.{length_list_in}
 use Rattle.saved.specs.Entries.{saved_row_in}
 use Rattle.saved.proofs.Savable.{row_inside, row_sound}

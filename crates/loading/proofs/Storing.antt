@@ -6,7 +6,7 @@ use mathlib.Core.Path.{◌≡◌, refl, sym, ap, ◌∙◌}
 use mathlib.Core.List.{List, [], ◌∷◌, ◌++◌}
 use lib.ListN.{length, drop}
 use lib.Seq.{sets, length-sets, get_or-set_same}
-use Rattle.std.specs.Prelude.{Option, Some, None}
+use Rattle.std.specs.Prelude.{Some, None}
 use Rattle.order.specs.declared.Order.{Order}
 use Rattle.quote.specs.Quotes.{most_rows}
 use Rattle.quote.specs.declared.QuoteRow.{QuoteRow}

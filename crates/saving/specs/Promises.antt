@@ -1,6 +1,6 @@
 -- What saving the day promises.
 use Rattle.std.specs.Prelude.{ℕ, ◌≡◌, cond, Result, List}
-use Rattle.refusal.specs.Answer.{Answer, value, refused, answer_of}
+use Rattle.refusal.specs.Answer.{Answer, refused, answer_of}
 use Rattle.refusal.specs.declared.Refusal.{Refusal}
 use Rattle.saving.specs.Texts.{text_answer, text_from}
 use Rattle.saved.specs.Days.{saved_day}

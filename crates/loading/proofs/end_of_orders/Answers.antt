@@ -2,7 +2,6 @@
 use mathlib.Core.Bool.{not}
 use mathlib.Core.Path.{refl, ap, ◌∙◌}
 use native.Mathlib.Omega.{arith}
-use borrow.Author.Rules.{rules}
 use Rattle.table.proofs.Answers.{refuted, upheld}
 use Rattle.loading.proofs.Checking.{none_checked, no_order, elder_stops, one_checked}
 use Rattle.loading.proofs.end_of_orders.Goals as goal

@@ -1,6 +1,5 @@
 -- `loading::store_day` meets its contract.
 use mathlib.Core.Path.{refl}
-use Rattle.loading.specs.declared.Front.{Front}
 use Rattle.loading.proofs.DayStored.{Given, given, header_inside, orders_room, orders_there, rows_room, mark_room, day_stored}
 use Rattle.loading.proofs.store_day.Goals as goal
 use Rattle.loading.proofs.store_day.Goals.{In-Some}
