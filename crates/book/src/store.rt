@@ -12,8 +12,8 @@ ghost use Rattle.lookup.specs.Beside.{Beside};
 ghost use Rattle.book.specs.Plans.{BooksSaid, RoomFor, after_plan, refigured, resummed};
 ghost use Rattle.book.specs.Promises.{Books};
 
-use crate::planning::Lent;
 use crate::Plan;
+use crate::planning::Lent;
 use layout::Record;
 use line::Said;
 use order::{Figures, Order};
