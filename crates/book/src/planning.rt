@@ -40,11 +40,10 @@ pub fn plan(day: &Day<'_>, own: Option<usize>, r: Record) -> Result<Plan, Refusa
     if header::is_over(day.table) {
         return Err(Refusal::DayOver);
     }
-    let event = r.event;
-    if conditions::is_maker(event) & own.is_some() {
+    if conditions::is_maker(r.event) & own.is_some() {
         return Err(Refusal::KnownKey);
     }
-    if !conditions::is_new(event) {
+    if !conditions::is_new(r.event) {
         return plan_older(day, r, own);
     }
     if is_full(day.table) {
@@ -66,8 +65,7 @@ fn subject(day: &Day<'_>, r: Record, own: Option<usize>) -> Option<usize>
     requires { place_no own ≡ place (key_of r) (table_in day.now.table.now).orders }
     ensures { place_no result ≡ place (refusals_subject r) (table_in day.now.table.now).orders }
 {
-    let event = r.event;
-    if !conditions::is_replace(event) {
+    if !conditions::is_replace(r.event) {
         return own;
     }
     day.find_key(order::elder_key_of(r))
@@ -100,8 +98,7 @@ fn plan_about(i: usize, a: Asked, r: Record, full: bool) -> Result<Plan, Refusal
     if conditions::not_executed(a, r) {
         return Err(Refusal::NotExecuted);
     }
-    let event = r.event;
-    if conditions::is_maker(event) & full {
+    if conditions::is_maker(r.event) & full {
         return Err(Refusal::Full);
     }
     Ok(plan_by(i, a, r))
@@ -115,8 +112,7 @@ fn plan_by(i: usize, a: Asked, r: Record) -> Plan
     ensures { result ≡ plan_by r.event i a.figures r }
 {
     let f = a.figures;
-    let event = r.event;
-    match event {
+    match r.event {
         Event::Accepted => Plan::New,
         Event::Executed(_) => Plan::Change(i, f.execute(r.contracts)),
         Event::Cancelled => Plan::Change(i, f.cancel(r.contracts)),
