@@ -2,13 +2,12 @@
 ghost use Rattle.std.specs.Prelude.{◌≤◌, ◌≡◌, true, ◌++◌, length};
 ghost use Rattle.layout.specs.Line.{printable};
 ghost use Rattle.book.specs.Bytes.{book_answer, book_bytes};
-ghost use Rattle.table.specs.Tables.{sound};
-ghost use Rattle.lookup.specs.Beside.{Beside};
 ghost use Rattle.row.specs.Writes.{Wrote};
 ghost use Rattle.feed.specs.Printed.{report as printed_report};
 ghost use Rattle.feed.specs.Steps.{kept_of, longest, next_line, nothing_held};
 
 use crate::report;
+use lookup::Day;
 use std::marker::Model;
 
 // One byte more than a line, so that a piece that is too long is seen to be.
@@ -76,71 +75,49 @@ impl Hold {
     }
 }
 
-fn book_piece(
-    t: &mut [u8],
-    heads: &mut [u16],
-    nexts: &mut [u16],
-    piece: &[u8],
-    plain: bool,
-    line: u64,
-    out: &mut [u8],
-) -> usize
-    requires t_value { sound t.old ≡ true }
-    requires beside { Beside t.old heads.old nexts.old }
+fn book_piece(day: &mut Day<'_>, piece: &[u8], plain: bool, line: u64, out: &mut [u8]) -> usize
     requires longest_in_bounds { longest ≤ length out.old }
     requires piece_value { plain ≡ true → printable piece.now ≡ true }
-    ensures wrote { Wrote (printed_report line (book_answer t.old piece.now)) out.old out.new result }
-    ensures t_after { t.new ≡ book_bytes t.old piece.now }
-    ensures beside_2 { Beside t.new heads.new nexts.new }
+    ensures wrote { Wrote (printed_report line (book_answer day.old.table.now piece.now)) out.old out.new result }
+    ensures t_after { day.new.table.now ≡ book_bytes day.old.table.now piece.now }
+    ensures same { day.new.table.ghost_name ≡ day.old.table.ghost_name }
 {
-    match book::book_sound(t, heads, nexts, piece, plain) {
+    match book::book_sound(day, piece, plain) {
         Ok(()) => 0,
         Err(x) => report::refused(line, x, out),
     }
 }
 
-pub fn book_held(
-    t: &mut [u8],
-    heads: &mut [u16],
-    nexts: &mut [u16],
-    hold: &Hold,
-    out: &mut [u8],
-) -> usize
-    requires t_value { sound t.old ≡ true }
-    requires beside { Beside t.old heads.old nexts.old }
+pub fn book_held(day: &mut Day<'_>, hold: &Hold, out: &mut [u8]) -> usize
     requires longest_in_bounds { longest ≤ length out.old }
-    ensures wrote { Wrote (printed_report hold.now.line (book_answer t.old hold.now.piece)) out.old out.new result }
-    ensures t_after { t.new ≡ book_bytes t.old hold.now.piece }
-    ensures beside_2 { Beside t.new heads.new nexts.new }
+    ensures wrote { Wrote (printed_report hold.now.line (book_answer day.old.table.now hold.now.piece)) out.old out.new result }
+    ensures t_after { day.new.table.now ≡ book_bytes day.old.table.now hold.now.piece }
+    ensures same { day.new.table.ghost_name ≡ day.old.table.ghost_name }
 {
     // Nobody has looked through what is held as one piece.
-    book_piece(t, heads, nexts, hold.piece(), false, hold.line(), out)
+    book_piece(day, hold.piece(), false, hold.line(), out)
 }
 
 // The part of a chunk that ends a piece. Where nothing is held it is the piece.
 pub fn book_part(
-    t: &mut [u8],
-    heads: &mut [u16],
-    nexts: &mut [u16],
+    day: &mut Day<'_>,
     hold: &mut Hold,
     part: &[u8],
     plain: bool,
     out: &mut [u8],
 ) -> usize
-    requires t_value { sound t.old ≡ true }
-    requires beside { Beside t.old heads.old nexts.old }
     requires longest_in_bounds { longest ≤ length out.old }
     requires part_value { plain ≡ true → printable part.now ≡ true }
-    ensures wrote { Wrote (printed_report hold.old.line (book_answer t.old (hold.old.piece ++ part.now))) out.old out.new result }
-    ensures t_after { t.new ≡ book_bytes t.old (hold.old.piece ++ part.now) }
-    ensures beside_2 { Beside t.new heads.new nexts.new }
+    ensures wrote { Wrote (printed_report hold.old.line (book_answer day.old.table.now (hold.old.piece ++ part.now))) out.old out.new result }
+    ensures t_after { day.new.table.now ≡ book_bytes day.old.table.now (hold.old.piece ++ part.now) }
+    ensures same { day.new.table.ghost_name ≡ day.old.table.ghost_name }
     ensures hold_after { hold.new ≡ nothing_held (next_line hold.old.line) }
 {
     let said = if hold.piece().is_empty() {
-        book_piece(t, heads, nexts, part, plain, hold.line(), out)
+        book_piece(day, part, plain, hold.line(), out)
     } else {
         hold.keep(part);
-        book_held(t, heads, nexts, hold, out)
+        book_held(day, hold, out)
     };
     hold.next();
     said

@@ -3,7 +3,6 @@
 
 ghost use Rattle.std.specs.Prelude.{◌≤◌, ◌≡◌, true, length};
 ghost use Rattle.table.specs.Tables.{limit_of, sound};
-ghost use Rattle.lookup.specs.Beside.{Beside};
 ghost use Rattle.row.specs.Writes.{Wrote};
 ghost use Rattle.sheet.specs.Promises.{text_of};
 ghost use Rattle.sheet.specs.Texts.{longest_sheet};
@@ -13,6 +12,7 @@ mod hold;
 mod report;
 
 pub use hold::Hold;
+use lookup::Day;
 
 // The longest refusal line.
 const LONGEST: usize = 46;
@@ -25,19 +25,9 @@ pub struct Fed {
 }
 
 // The pieces of a chunk, one after another. It stops where the output might have no room for a refusal line, so that nothing is lost.
-pub fn step(
-    chunk: &[u8],
-    t: &mut [u8],
-    heads: &mut [u16],
-    nexts: &mut [u16],
-    hold: &mut Hold,
-    out: &mut [u8],
-) -> Fed
-    requires t_value { sound t.old ≡ true }
-    requires beside { Beside t.old heads.old nexts.old }
-    ensures fits { Fits (step_from (length out.old) (between_of hold.old t.old) chunk.now) out.old result t.new hold.new out.new }
-    ensures t_after { sound t.new ≡ true }
-    ensures beside_2 { Beside t.new heads.new nexts.new }
+pub fn step(chunk: &[u8], day: &mut Day<'_>, hold: &mut Hold, out: &mut [u8]) -> Fed
+    ensures fits { Fits (step_from (length out.old) (between_of hold.old day.old.table.now) chunk.now) out.old result day.new.table.now hold.new out.new }
+    ensures same { day.new.table.ghost_name ≡ day.old.table.ghost_name }
 {
     let mut used = 0;
     let mut wrote = 0;
@@ -52,30 +42,23 @@ pub fn step(
         if out.len() - wrote < LONGEST {
             return Fed { used, wrote };
         }
-        wrote += hold::book_part(t, heads, nexts, hold, part, cut.plain, &mut out[wrote..]);
+        wrote += hold::book_part(day, hold, part, cut.plain, &mut out[wrote..]);
         used = end;
     }
     Fed { used, wrote }
 }
 
 // What is held when the text ends is the last piece.
-fn book_last(
-    t: &mut [u8],
-    heads: &mut [u16],
-    nexts: &mut [u16],
-    hold: &Hold,
-    out: &mut [u8],
-) -> usize
-    requires t_value { sound t.old ≡ true }
-    requires beside { Beside t.old heads.old nexts.old }
+fn book_last(day: &mut Day<'_>, hold: &Hold, out: &mut [u8]) -> usize
     requires longest_in_bounds { longest ≤ length out.old }
-    ensures wrote { Wrote (last_said (between_of hold.now t.old)) out.old out.new result }
-    ensures t_after { t.new ≡ last_table (between_of hold.now t.old) }
+    ensures wrote { Wrote (last_said (between_of hold.now day.old.table.now)) out.old out.new result }
+    ensures t_after { day.new.table.now ≡ last_table (between_of hold.now day.old.table.now) }
+    ensures same { day.new.table.ghost_name ≡ day.old.table.ghost_name }
 {
     if hold.piece().is_empty() {
         return 0;
     }
-    hold::book_held(t, heads, nexts, hold, out)
+    hold::book_held(day, hold, out)
 }
 
 // A buffer with room for the longest sheet is never refused.
@@ -88,19 +71,12 @@ fn sheet_of(t: &[u8], out: &mut [u8]) -> usize
 }
 
 // The end of the text: the last piece, and behind it the sheet.
-pub fn finish(
-    t: &mut [u8],
-    heads: &mut [u16],
-    nexts: &mut [u16],
-    hold: &Hold,
-    out: &mut [u8],
-) -> usize
-    requires t_value { sound t.old ≡ true }
-    requires beside { Beside t.old heads.old nexts.old }
-    requires t_in_bounds { room_at_end (limit_of (length t.old)) ≤ length out.old }
-    ensures wrote { Wrote (finished (between_of hold.now t.old)) out.old out.new result }
-    ensures t_after { t.new ≡ last_table (between_of hold.now t.old) }
+pub fn finish(day: &mut Day<'_>, hold: &Hold, out: &mut [u8]) -> usize
+    requires t_in_bounds { room_at_end (limit_of (length day.old.table.now)) ≤ length out.old }
+    ensures wrote { Wrote (finished (between_of hold.now day.old.table.now)) out.old out.new result }
+    ensures t_after { day.new.table.now ≡ last_table (between_of hold.now day.old.table.now) }
+    ensures same { day.new.table.ghost_name ≡ day.old.table.ghost_name }
 {
-    let said = book_last(t, heads, nexts, hold, out);
-    said + sheet_of(t, &mut out[said..])
+    let said = book_last(day, hold, out);
+    said + sheet_of(day.table, &mut out[said..])
 }

@@ -6,12 +6,12 @@ use Rattle.feed.proofs.book_last.Goals as goal
 pub returns-then-is_empty : goal.returns-then-is_empty
 returns-then-is_empty c =
     let a = c.args in
-    let s = none_says a.hold.now.piece a.hold.now.line a.t.now a.out.now (rw (← c.piece.ensures) (search rules)) in
-    record { wrote = s.0; t_after = s.1 }
+    let s = none_says a.hold.now.piece a.hold.now.line a.day.now.table.now a.out.now (rw (← c.piece.ensures) (search rules)) in
+    record { wrote = s.0; t_after = s.1; same = search rules }
 
 pub returns : goal.returns
 returns c =
     let a = c.args in
     let booked = c.book_held.ensures in
-    let s = last_says a.hold.now.line a.t.now a.hold.now.piece (rw (← c.piece.ensures) (search rules)) (booked.wrote, booked.t_after) in
-    record { wrote = s.0; t_after = s.1 }
+    let s = last_says a.hold.now.line a.day.now.table.now a.hold.now.piece (rw (← c.piece.ensures) (search rules)) (booked.wrote, booked.t_after) in
+    record { wrote = s.0; t_after = s.1; same = search rules }

@@ -16,7 +16,7 @@ bounds c = piece_bounds c.args.chunk.now c.loop-used.used c.cut-cut.result.end c
 pub loop-used-init : goal.loop-used-init
 loop-used-init c =
     let a = c.args in
-    (first_turn a.chunk.now a.t.now a.hold.now a.out.now c.requires.t_value, c.requires.beside, refl, refl)
+    (first_turn a.chunk.now a.day.now.table.now a.hold.now a.out.now c.args.day.now.sound, refl)
 
 pub slice_bounds-part-end : goal.slice_bounds-part-end
 slice_bounds-part-end c = search (rules, bounds c)
@@ -27,15 +27,6 @@ overflow_sub-end c = search (rules, bounds (goal.at.overflow_sub-end c).After-cu
 pub bounds-chunk-end : goal.bounds-chunk-end
 bounds-chunk-end c = search (rules, bounds (goal.at.bounds-chunk-end c).After-cut-cut)
 
-pub shape_of-t-then-chunk-end-ne-LF : goal.shape_of-t-then-chunk-end-ne-LF
-shape_of-t-then-chunk-end-ne-LF c = c.loop-used.invariant.0.table
-
-pub shape_of-heads-then-chunk-end-ne-LF : goal.shape_of-heads-then-chunk-end-ne-LF
-shape_of-heads-then-chunk-end-ne-LF c = c.loop-used.invariant.2
-
-pub shape_of-nexts-then-chunk-end-ne-LF : goal.shape_of-nexts-then-chunk-end-ne-LF
-shape_of-nexts-then-chunk-end-ne-LF c = c.loop-used.invariant.3
-
 pub shape_of-out-then-chunk-end-ne-LF : goal.shape_of-out-then-chunk-end-ne-LF
 shape_of-out-then-chunk-end-ne-LF c = same_long c.loop-used.invariant.0
 
@@ -43,19 +34,10 @@ pub returns-then-chunk-end-ne-LF : goal.returns-then-chunk-end-ne-LF
 returns-then-chunk-end-ne-LF c =
     let inv = c.loop-used.invariant in
     let kept = c.keep.ensures in
-    record { fits = keeps_begun inv.0 c.cut-cut.result.end c.loop-used-test.true c.cut-cut.ensures.ends c.if-chunk-end-ne-LF.true kept.piece kept.line; t_after = inv.0.good; beside_2 = inv.1 }
+    record { fits = keeps_begun inv.0 c.cut-cut.result.end c.loop-used-test.true c.cut-cut.ensures.ends c.if-chunk-end-ne-LF.true kept.piece kept.line; same = inv.1 }
 
 pub overflow_sub-out : goal.overflow_sub-out
 overflow_sub-out c = search (rules, same_long c.loop-used.invariant.0)
-
-pub shape_of-t-then-out-wrote-lt-LONGEST : goal.shape_of-t-then-out-wrote-lt-LONGEST
-shape_of-t-then-out-wrote-lt-LONGEST c = c.loop-used.invariant.0.table
-
-pub shape_of-heads-then-out-wrote-lt-LONGEST : goal.shape_of-heads-then-out-wrote-lt-LONGEST
-shape_of-heads-then-out-wrote-lt-LONGEST c = c.loop-used.invariant.2
-
-pub shape_of-nexts-then-out-wrote-lt-LONGEST : goal.shape_of-nexts-then-out-wrote-lt-LONGEST
-shape_of-nexts-then-out-wrote-lt-LONGEST c = c.loop-used.invariant.3
 
 pub shape_of-out-then-out-wrote-lt-LONGEST : goal.shape_of-out-then-out-wrote-lt-LONGEST
 shape_of-out-then-out-wrote-lt-LONGEST c = same_long c.loop-used.invariant.0
@@ -63,12 +45,12 @@ shape_of-out-then-out-wrote-lt-LONGEST c = same_long c.loop-used.invariant.0
 pub returns-then-out-wrote-lt-LONGEST : goal.returns-then-out-wrote-lt-LONGEST
 returns-then-out-wrote-lt-LONGEST c =
     let inv = c.loop-used.invariant in
-    record { fits = stops inv.0 c.cut-cut.result.end c.loop-used-test.true c.cut-cut.ensures.ends c.if-chunk-end-ne-LF.false c.if-out-wrote-lt-LONGEST.true; t_after = inv.0.good; beside_2 = inv.1 }
+    record { fits = stops inv.0 c.cut-cut.result.end c.loop-used-test.true c.cut-cut.ensures.ends c.if-chunk-end-ne-LF.false c.if-out-wrote-lt-LONGEST.true; same = inv.1 }
 
 pub book_part-wrote-requires : goal.book_part-wrote-requires
 book_part-wrote-requires c =
     let inv = c.loop-used.invariant in
-    record { t_value = inv.0.good; beside = inv.1; longest_in_bounds = room_lent inv.0 c.if-out-wrote-lt-LONGEST.false; part_value = λ e. plain_lent _ _ _ c.cut-cut.ensures.ends (c.cut-cut.ensures.plain e) }
+    record { longest_in_bounds = room_lent inv.0 c.if-out-wrote-lt-LONGEST.false; part_value = λ e. plain_lent _ _ _ c.cut-cut.ensures.ends (c.cut-cut.ensures.plain e) }
 
 pub overflow_add-wrote : goal.overflow_add-wrote
 overflow_add-wrote c =
@@ -81,16 +63,7 @@ pub loop-used-preserved : goal.loop-used-preserved
 loop-used-preserved c =
     let said = c.book_part-wrote.ensures in
     let inv = c.loop-used.invariant in
-    (next_turn inv.0 c.cut-cut.result.end c.loop-used-test.true c.cut-cut.ensures.ends c.if-chunk-end-ne-LF.false c.if-out-wrote-lt-LONGEST.false (said.wrote, said.t_after) said.hold_after, said.beside_2, search rules, search rules)
-
-pub shape_of-t : goal.shape_of-t
-shape_of-t c = c.loop-used.invariant.0.table
-
-pub shape_of-heads : goal.shape_of-heads
-shape_of-heads c = c.loop-used.invariant.2
-
-pub shape_of-nexts : goal.shape_of-nexts
-shape_of-nexts c = c.loop-used.invariant.3
+    (next_turn inv.0 c.cut-cut.result.end c.loop-used-test.true c.cut-cut.ensures.ends c.if-chunk-end-ne-LF.false c.if-out-wrote-lt-LONGEST.false (said.wrote, said.t_after) said.hold_after, search rules)
 
 pub shape_of-out : goal.shape_of-out
 shape_of-out c = same_long c.loop-used.invariant.0
@@ -98,4 +71,4 @@ shape_of-out c = same_long c.loop-used.invariant.0
 pub returns : goal.returns
 returns c =
     let inv = c.loop-used.invariant in
-    record { fits = at_chunk_end inv.0 c.loop-used-test.false; t_after = inv.0.good; beside_2 = inv.1 }
+    record { fits = at_chunk_end inv.0 c.loop-used-test.false; same = inv.1 }

@@ -9,4 +9,4 @@ book_piece-requires-clause-piece_value c = λ e. absurd (true≢false (sym e))
 pub returns : goal.returns
 returns c =
     let booked = c.book_piece.ensures in
-    record { wrote = rw (← c.piece.ensures, ← c.line.ensures) booked.wrote; t_after = rw (← c.piece.ensures) booked.t_after; beside_2 = booked.beside_2 }
+    record { wrote = rw (← c.piece.ensures, ← c.line.ensures) booked.wrote; t_after = rw (← c.piece.ensures) booked.t_after; same = booked.same }

@@ -14,23 +14,23 @@ returns c =
     elim c.if-is_empty.branch [
       | then-is_empty w ↦
           let said = w.book_piece-said.ensures in
-          let s = part_says w.line.result a.t.now piece a.part.now (rw (← c.piece.ensures) (search rules)) (said.wrote, said.t_after) in
+          let s = part_says w.line.result a.day.now.table.now piece a.part.now (rw (← c.piece.ensures) (search rules)) (said.wrote, said.t_after) in
           let line : c.if-is_empty.hold.line ≡ a.hold.now.line = ap (λ h. h.line) w.hold-is in
           record {
             wrote = rw (w.out-is, w.said-is, ← w.line.ensures) s.0;
-            t_after = w.t-is ∙ s.1;
-            beside_2 = rw (w.t-is, w.heads-is, w.nexts-is) said.beside_2;
+            t_after = ap (λ d. d.table.now) w.day-is ∙ s.1;
+            same = rw w.day-is said.same;
             hold_after = c.next.ensures ∙ ap (λ l. nothing_held (next_line l)) line;
           }
       | else-is_empty w ↦
           let hold = w.keep.new.self in
           let said = w.book_held-said.ensures in
-          let s = verbatim_says hold.line a.t.now hold.piece (piece ++ a.part.now) w.keep.ensures.piece (said.wrote, said.t_after) in
+          let s = verbatim_says hold.line a.day.now.table.now hold.piece (piece ++ a.part.now) w.keep.ensures.piece (said.wrote, said.t_after) in
           let line : c.if-is_empty.hold.line ≡ a.hold.now.line = ap (λ h. h.line) w.hold-is ∙ w.keep.ensures.line in
           record {
             wrote = rw (w.out-is, w.said-is, ← w.keep.ensures.line) s.0;
-            t_after = w.t-is ∙ s.1;
-            beside_2 = rw (w.t-is, w.heads-is, w.nexts-is) said.beside_2;
+            t_after = ap (λ d. d.table.now) w.day-is ∙ s.1;
+            same = rw w.day-is said.same;
             hold_after = c.next.ensures ∙ ap (λ l. nothing_held (next_line l)) line;
           }
     ]
