@@ -2,7 +2,7 @@
 #![tactic(auto)]
 
 ghost use Rattle.std.specs.Prelude.{◌≤◌, ◌≡◌, true, length};
-ghost use Rattle.table.specs.Tables.{limit_of, sound};
+ghost use Rattle.table.specs.Tables.{limit_of};
 ghost use Rattle.row.specs.Writes.{Wrote};
 ghost use Rattle.sheet.specs.Promises.{text_of};
 ghost use Rattle.sheet.specs.Texts.{longest_sheet};
@@ -62,12 +62,11 @@ fn book_last(day: &mut Day<'_>, hold: &Hold, out: &mut [u8]) -> usize
 }
 
 // A buffer with room for the longest sheet is never refused.
-fn sheet_of(t: &[u8], out: &mut [u8]) -> usize
-    requires t_value { sound t.now ≡ true }
-    requires t_in_bounds { longest_sheet (limit_of (length t.now)) ≤ length out.old }
-    ensures { Wrote (text_of t.now) out.old out.new result }
+fn sheet_of(day: &Day<'_>, out: &mut [u8]) -> usize
+    requires { longest_sheet (limit_of (length day.now.table.now)) ≤ length out.old }
+    ensures { Wrote (text_of day.now.table.now) out.old out.new result }
 {
-    sheet::write_sound(t, out).unwrap()
+    sheet::write_sound(day.table, out).unwrap()
 }
 
 // The end of the text: the last piece, and behind it the sheet.
@@ -78,5 +77,5 @@ pub fn finish(day: &mut Day<'_>, hold: &Hold, out: &mut [u8]) -> usize
     ensures same { day.new.table.ghost_name ≡ day.old.table.ghost_name }
 {
     let said = book_last(day, hold, out);
-    said + sheet_of(day.table, &mut out[said..])
+    said + sheet_of(day, &mut out[said..])
 }

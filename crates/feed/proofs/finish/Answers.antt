@@ -1,5 +1,5 @@
 -- `feed::finish` meets its contract: what the last piece says, and right behind it the sheet.
-use Rattle.feed.proofs.Finishing.{table_sound, behind_last, all_room, all_written}
+use Rattle.feed.proofs.Finishing.{behind_last, all_room, all_written}
 use borrow.Author.Rules.{rules}
 use Rattle.feed.proofs.finish.Goals as goal
 
@@ -19,8 +19,7 @@ pub sheet_of-requires : goal.sheet_of-requires
 sheet_of-requires c =
     let hold = c.args.hold.now in
     let last = c.book_last-said.ensures in
-    let t = c.args.day.now.table.now in
-    record { t_value = search rules; t_in_bounds = (behind_last hold.piece hold.line t last.t_after last.wrote (search rules)).1 }
+    (behind_last hold.piece hold.line c.args.day.now.table.now last.t_after last.wrote (search rules)).1
 
 pub overflow_add-result : goal.overflow_add-result
 overflow_add-result c =

@@ -5,11 +5,9 @@ use Rattle.feed.proofs.sheet_of.Goals as goal
 pub unwrap-requires : goal.unwrap-requires
 unwrap-requires c =
     let a = c.args in
-    let pre = c.requires in
-    never_refused a.t.now a.out.now pre.t_value pre.t_in_bounds c.write_sound.result c.write_sound.ensures
+    never_refused a.day.now.table.now a.out.now a.day.now.sound c.requires c.write_sound.result c.write_sound.ensures
 
 pub returns : goal.returns
 returns c =
     let a = c.args in
-    let pre = c.requires in
-    sheet_written a.t.now a.out.now pre.t_value pre.t_in_bounds c.unwrap.ensures c.write_sound.ensures
+    sheet_written a.day.now.table.now a.out.now a.day.now.sound c.requires c.unwrap.ensures c.write_sound.ensures
