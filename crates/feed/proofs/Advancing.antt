@@ -14,7 +14,7 @@ use Rattle.piece.specs.Cuts.{Ended, Cuts}
 use Rattle.piece.specs.Cuts.Cuts.{nothing, last, more}
 use Rattle.piece.proofs.Cutting.{pieces_cut}
 use Rattle.feed.specs.Printed.{report}
-use Rattle.feed.specs.Steps.{Between, between, longest, next_line, Step, step, used_of, text_in, after, step_over, step_from, Fits}
+use Rattle.feed.specs.Steps.{Between, between, longest, next_line, Held, Step, step, used_of, text_in, after, step_over, step_from, Fits}
 use Rattle.feed.specs.declared.Fed.{Fed}
 use Rattle.feed.proofs.Endings.{unended, ended}
 use Rattle.feed.proofs.Longest.{said_most}
@@ -62,7 +62,7 @@ pub record Took (chunk : List ℕ) (used : ℕ) (before : List ℕ) (r : Fed) (o
   pub inside : used + r.used ≤ length chunk
   pub some : 1 ≤ r.used
 
-pub took : (chunk : List ℕ) (used : ℕ) (x : Between) (before : List ℕ) {r : Fed} {t hold out : List ℕ} → used < length chunk → longest ≤ length before
+pub took : (chunk : List ℕ) (used : ℕ) (x : Between) (before : List ℕ) {r : Fed} {t : List ℕ} {hold : Held} {out : List ℕ} → used < length chunk → longest ≤ length before
     → Fits (step_from (length before) x (take (length chunk - used) (drop used chunk))) before r t hold out → Took chunk used before r out
 took chunk used x before here room f =
     let rest = take (length chunk - used) (drop used chunk) in

@@ -4,7 +4,7 @@ use native.Mathlib.Omega.{arith}
 use mathlib.Core.Path.{◌≡◌, refl, sym, ap, ◌∙◌}
 use mathlib.Core.Bool.{Bool, true, false, cond}
 use mathlib.Core.List.{List, [], ◌∷◌, ◌++◌}
-use borrow.Author.Tests.{lt-ltb, le-ltb}
+use borrow.Author.Tests.{lt-ltb}
 use lib.Dec.{ltb}
 use lib.ListN.{length}
 use Rattle.refusal.specs.Answer.{Answer}
@@ -20,11 +20,8 @@ use Rattle.feed.proofs.Remaining.{left_from}
 
 -- ---- the number of a piece
 
-pub line_up : (l : ℕ) → l < 2 ^ 64 - 1 → l + 1 ≡ next_line l
+line_up : (l : ℕ) → l < 2 ^ 64 - 1 → l + 1 ≡ next_line l
 line_up l h = rw (lt-ltb l (2 ^ 64 - 1) h)
-
-pub line_last : (l : ℕ) → 2 ^ 64 - 1 ≤ l → l ≡ next_line l
-line_last l h = rw (le-ltb l (2 ^ 64 - 1) h)
 
 -- where a piece is left, the number goes up by 1
 next_is : (limit l : ℕ) (t : Table) (ps : List (List ℕ)) → l + (1 + length ps) ≤ 2 ^ 64

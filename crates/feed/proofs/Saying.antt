@@ -1,10 +1,9 @@
 -- What is written for a piece, and the table that it leaves: the piece booked in place, from the hold, or at the end of the text.
-use Prim.Native.Nat.{ℕ, zero, suc, ◌-◌}
-use native.Mathlib.Nat.{sub-zero}
+use Prim.Native.Nat.{ℕ}
 use native.Mathlib.Omega.{arith}
 use mathlib.Core.Path.{◌≡◌, refl, ◌∙◌}
 use mathlib.Core.List.{List, [], ◌∷◌, ◌++◌}
-use lib.ListN.{length, take}
+use lib.ListN.{length}
 use Rattle.refusal.specs.Numbers.{number_of, field_of}
 use Rattle.refusal.specs.declared.Refusal.{Refusal}
 use Rattle.book.specs.Bytes.{book_answer, book_bytes}
@@ -13,7 +12,7 @@ use Rattle.book.specs.declared.Booking.{Booking}
 use Rattle.book.specs.declared.Booking.TheVariants.{Booked, Refused}
 use Rattle.row.specs.Writes.{Wrote}
 use Rattle.feed.specs.Printed.{refusal_line, report}
-use Rattle.feed.specs.Steps.{between, held_in, hold_length, kept_of, last_said, last_table}
+use Rattle.feed.specs.Steps.{between, kept_of, last_said, last_table}
 use Rattle.feed.proofs.Enough.{verbatim_answer, kept_bytes}
 
 -- r bytes are written for the piece p, and the table is then `after`
@@ -29,19 +28,21 @@ module _ (line : ℕ) (t : List ℕ) {before out : List ℕ} {r : ℕ} {after : 
       → Wrote (refusal_line line (number_of y) (field_of y)) before out r → Says line t p before out r after
   refused_says p x y e b w = (rw (← b.said, e) w, b.out)
 
-  pub held_says : (hold : List ℕ) (held : ℕ) → Says line t (take (held - 0) hold) before out r after → Says line t (held_in hold held) before out r after
-  held_says hold held s = rw sub-zero at s
-
-  pub part_says : (hold part : List ℕ) (held : ℕ) → held ≡ 0 → Says line t part before out r after
-      → Says line t (held_in hold held ++ part) before out r after
-  part_says hold part held e s = rw e s
+  -- where nothing is held the part is the piece
+  pub part_says : (held part : List ℕ) → length held ≡ 0 → Says line t part before out r after → Says line t (held ++ part) before out r after
+  part_says [] part e s = s
+  part_says (b ∷ held) part e s = absurd (omega arith)
 
   -- what is kept of a piece says what the piece says
   pub verbatim_says : (kept p : List ℕ) → kept ≡ kept_of p → Says line t kept before out r after → Says line t p before out r after
   verbatim_says kept p e s = (rw (← verbatim_answer t p, ← e) s.0, s.1 ∙ rw e (kept_bytes t p))
 
-  pub last_says : (hold : List ℕ) (held : ℕ) → length hold ≡ hold_length → (held ≡ 0 → ⊥) → Says line t (held_in hold held) before out r after
-      → Wrote (last_said (between (held_in hold held) line t)) before out r × (after ≡ last_table (between (held_in hold held) line t))
-  last_says [] held long some s = absurd (omega arith)
-  last_says (b ∷ hold) zero long some s = absurd (some refl)
-  last_says (b ∷ hold) (suc held) long some s = s
+  pub last_says : (held : List ℕ) → (length held ≡ 0 → ⊥) → Says line t held before out r after
+      → Wrote (last_said (between held line t)) before out r × (after ≡ last_table (between held line t))
+  last_says [] some s = absurd (some refl)
+  last_says (b ∷ held) some s = s
+
+pub none_says : (held : List ℕ) (line : ℕ) (t before : List ℕ) → length held ≡ 0
+    → Wrote (last_said (between held line t)) before before 0 × (t ≡ last_table (between held line t))
+none_says [] line t before e = (record { long = refl; out = refl }, refl)
+none_says (b ∷ held) line t before e = absurd (omega arith)

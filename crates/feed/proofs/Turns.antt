@@ -18,26 +18,24 @@ use Rattle.sheet.proofs.Joining.{lent, back, one_text}
 use Rattle.piece.specs.Pieces.{pieces, piece_length}
 use Rattle.piece.proofs.Lent.{part, piece_bounds, part_long, next_piece}
 use Rattle.feed.specs.Printed.{report}
-use Rattle.feed.specs.Steps.{Between, between, hold_length, kept_of, longest, next_line, ends_in_lf, Step, step, after, step_over, step_from, held_in, Fits}
+use Rattle.feed.specs.Steps.{Between, between, kept_of, longest, next_line, ends_in_lf, Held, nothing_held, between_of, Step, step, after, step_over, step_from, Fits}
 use Rattle.feed.proofs.Endings.{part_ends}
 use Rattle.feed.proofs.Longest.{said_most}
 use Rattle.feed.proofs.Saying.{Says}
 
 -- what is left to do from a place of the chunk on
-abbrev ahead : (room : ℕ) (hold : List ℕ) (kept number : ℕ) (t rest : List ℕ) → Step
-ahead room hold kept number t rest = step_over room (held_in hold kept) number t (pieces rest)
+abbrev ahead : (room : ℕ) → Held → (t rest : List ℕ) → Step
+ahead room hold t rest = step_over room hold.piece hold.line t (pieces rest)
 
 -- x is the whole step; `first` and `before` are the table and the output buffer as they were, the others are as they are at a turn
-pub record Turn (x : Step) (chunk first before t hold out : List ℕ) (used wrote kept number : ℕ) : Type 0 where
+pub record Turn (x : Step) (chunk first before t : List ℕ) (hold : Held) (out : List ℕ) (used wrote : ℕ) : Type 0 where
   pub text : List ℕ
-  pub whole : x ≡ after used text (ahead (length before - wrote) hold kept number t (drop used chunk))
+  pub whole : x ≡ after used text (ahead (length before - wrote) hold t (drop used chunk))
   pub said : Wrote text before out wrote
   pub inside : used ≤ length chunk
   pub room : wrote ≤ length before
   pub good : sound t ≡ true
   pub table : length t ≡ length first
-  pub long : length hold ≡ hold_length
-  pub few : kept ≤ hold_length
 
 -- ---- steps behind steps
 
@@ -52,19 +50,17 @@ after_after n m x y (step used text kept) = rw (add_assoc n m used, append_assoc
 
 -- ---- the first turn
 
-pub first_turn : (chunk t hold out : List ℕ) (held line : ℕ) → sound t ≡ true → length hold ≡ hold_length → held ≤ hold_length
-    → Turn (step_from (length out) (between (held_in hold held) line t) chunk) chunk t out t hold out 0 0 held line
-first_turn chunk t hold out held line good long few =
+pub first_turn : (chunk t : List ℕ) (hold : Held) (out : List ℕ) → sound t ≡ true
+    → Turn (step_from (length out) (between_of hold t) chunk) chunk t out t hold out 0 0
+first_turn chunk t hold out good =
     record {
       text = [];
-      whole = rw sub-zero (after_none (ahead (length out) hold held line t chunk));
+      whole = rw sub-zero (after_none (ahead (length out) hold t chunk));
       said = record { long = refl; out = refl };
       inside = omega arith;
       room = omega arith;
       good = good;
       table = refl;
-      long = long;
-      few = few;
     }
 
 -- ---- the next piece of the chunk
@@ -75,18 +71,16 @@ module _ (chunk : List ℕ) (used end : ℕ) (more : used < length chunk) (e : e
 
 -- ---- what the code answers
 
-fits : {x : Step} {before t hold out : List ℕ} {u w h l : ℕ} (y : List ℕ) (k : Between) → x ≡ step u y k → Wrote y before out w
-    → between (held_in hold h) l t ≡ k → length hold ≡ hold_length → h ≤ hold_length
-    → Fits x before (record { used = u; wrote = w; held = h; line = l }) t hold out
-fits y k e w same long few =
-    rw e (record { used = refl; wrote = w.long; written = w.out; kept = same; long = long; few = few })
+fits : {x : Step} {before t : List ℕ} {hold : Held} {out : List ℕ} {u w : ℕ} (y : List ℕ) (k : Between) → x ≡ step u y k → Wrote y before out w
+    → between_of hold t ≡ k → Fits x before (record { used = u; wrote = w }) t hold out
+fits y k e w same = rw e (record { used = refl; wrote = w.long; written = w.out; kept = same })
 
-module _ {x : Step} {chunk first before t hold out : List ℕ} {used wrote kept number : ℕ} (turn : Turn x chunk first before t hold out used wrote kept number) where
+module _ {x : Step} {chunk first before t : List ℕ} {hold : Held} {out : List ℕ} {used wrote : ℕ} (turn : Turn x chunk first before t hold out used wrote) where
   abbrev room : ℕ
   room = length before - wrote
 
   abbrev begun : List ℕ
-  begun = held_in hold kept
+  begun = hold.piece
 
   pub same_long : length out ≡ length before
   same_long = ap length turn.said.out ∙ length-sets before 0 turn.text
@@ -94,49 +88,49 @@ module _ {x : Step} {chunk first before t hold out : List ℕ} {used wrote kept 
   pub room_lent : longest ≤ length out - wrote → longest ≤ length (lent wrote out)
   room_lent h = omega (arith, length-take (length out - wrote) (drop wrote out), length-drop wrote out)
 
-  pub room_said : longest ≤ length out - wrote → (q : List ℕ) {last : List ℕ} {r : ℕ} → Wrote (report number (book_answer t q)) (lent wrote out) last r
+  pub room_said : longest ≤ length out - wrote → (q : List ℕ) {last : List ℕ} {r : ℕ} → Wrote (report hold.line (book_answer t q)) (lent wrote out) last r
       → wrote + r ≤ length before
-  room_said h q w = omega (arith, same_long, w.long, said_most number t q)
+  room_said h q w = omega (arith, same_long, w.long, said_most hold.line t q)
 
   -- the chunk is used up
-  pub at_chunk_end : length chunk ≤ used → Fits x before (record { used = used; wrote = wrote; held = kept; line = number }) t hold out
+  pub at_chunk_end : length chunk ≤ used → Fits x before (record { used = used; wrote = wrote }) t hold out
   at_chunk_end h =
-      let none : ahead room hold kept number t (drop used chunk) ≡ step 0 [] (between begun number t) = rw (drop_of_length-le chunk h) in
-      fits turn.text (between begun number t) (turn.whole ∙ rw none (none_after used turn.text (between begun number t))) turn.said refl
-      turn.long turn.few
+      let b = between_of hold t in
+      let none : ahead room hold t (drop used chunk) ≡ step 0 [] b = rw (drop_of_length-le chunk h) in
+      fits turn.text b (turn.whole ∙ rw none (none_after used turn.text b)) turn.said refl
 
   module _ (end : ℕ) (more : used < length chunk) (e : end ≡ used + piece_length (drop used chunk)) where
     abbrev p : List ℕ
     p = part chunk used end
 
     -- the piece does not end in this chunk
-    pub keeps_begun : (get_or chunk (end - 1) 0 ≡ 10 → ⊥) → {last : List ℕ} {n : ℕ} → held_in last n ≡ kept_of (begun ++ p) → n ≤ hold_length → length last ≡ hold_length
-        → Fits x before (record { used = end; wrote = wrote; held = n; line = number }) t last out
-    keeps_begun lf {last} {n} k few long =
-        let b = between (kept_of (begun ++ p)) number t in
-        let over : ahead room hold kept number t (drop used chunk) ≡ step (length p) [] b = rw (next_piece chunk used end more e, ends_so chunk used end more e, ne_eqb (get_or chunk (end - 1) 0) 10 lf) in
+    pub keeps_begun : (get_or chunk (end - 1) 0 ≡ 10 → ⊥) → {last : Held} → last.piece ≡ kept_of (begun ++ p) → last.line ≡ hold.line
+        → Fits x before (record { used = end; wrote = wrote }) t last out
+    keeps_begun lf {last} k l =
+        let b = between (kept_of (begun ++ p)) hold.line t in
+        let over : ahead room hold t (drop used chunk) ≡ step (length p) [] b = rw (next_piece chunk used end more e, ends_so chunk used end more e, ne_eqb (get_or chunk (end - 1) 0) 10 lf) in
         let all : after used turn.text (step (length p) [] b) ≡ step end turn.text b = rw (part_long chunk used end more e, append-nil turn.text) in
-        fits turn.text b (turn.whole ∙ rw over all) turn.said (ap (λ h. between h number t) k) long few
+        fits turn.text b (turn.whole ∙ rw over all) turn.said (rw (k, l))
 
     module _ (lf : get_or chunk (end - 1) 0 ≡ 10) where
       -- it ends, and there might be no room
-      pub stops : length out - wrote < longest → Fits x before (record { used = used; wrote = wrote; held = kept; line = number }) t hold out
+      pub stops : length out - wrote < longest → Fits x before (record { used = used; wrote = wrote }) t hold out
       stops h =
-          let b = between begun number t in
+          let b = between_of hold t in
           let little : room < longest = omega (arith, same_long) in
-          let over : ahead room hold kept number t (drop used chunk) ≡ step 0 [] b = rw (next_piece chunk used end more e, ends_so chunk used end more e, eq-eqb (get_or chunk (end - 1) 0) 10 lf, lt-ltb room longest little) in
-          fits turn.text b (turn.whole ∙ rw over (none_after used turn.text b)) turn.said refl turn.long turn.few
+          let over : ahead room hold t (drop used chunk) ≡ step 0 [] b = rw (next_piece chunk used end more e, ends_so chunk used end more e, eq-eqb (get_or chunk (end - 1) 0) 10 lf, lt-ltb room longest little) in
+          fits turn.text b (turn.whole ∙ rw over (none_after used turn.text b)) turn.said refl
 
       -- it ends, and is booked
-      pub next_turn : longest ≤ length out - wrote → {last t₁ hold₁ : List ℕ} {r l : ℕ} → Says number t (begun ++ p) (lent wrote out) last r t₁
-          → length hold₁ ≡ hold_length → l ≡ next_line number → Turn x chunk first before t₁ hold₁ (back wrote out last) end (wrote + r) 0 l
-      next_turn h {last} {t₁} {hold₁} {r} {l} (w, f) long n =
-          let said = report number (book_answer t (begun ++ p)) in
-          let rest = step_over (room - length said) [] (next_line number) (book_bytes t (begun ++ p)) (pieces (drop end chunk)) in
+      pub next_turn : longest ≤ length out - wrote → {last t₁ : List ℕ} {hold₁ : Held} {r : ℕ} → Says hold.line t (begun ++ p) (lent wrote out) last r t₁
+          → hold₁ ≡ nothing_held (next_line hold.line) → Turn x chunk first before t₁ hold₁ (back wrote out last) end (wrote + r)
+      next_turn h {last} {t₁} {hold₁} {r} (w, f) n =
+          let said = report hold.line (book_answer t (begun ++ p)) in
+          let rest = step_over (room - length said) [] (next_line hold.line) (book_bytes t (begun ++ p)) (pieces (drop end chunk)) in
           let much : longest ≤ room = omega (arith, same_long) in
-          let over : ahead room hold kept number t (drop used chunk) ≡ after (length p) said rest = rw (next_piece chunk used end more e, ends_so chunk used end more e, eq-eqb (get_or chunk (end - 1) 0) 10 lf, le-ltb room longest much) in
+          let over : ahead room hold t (drop used chunk) ≡ after (length p) said rest = rw (next_piece chunk used end more e, ends_so chunk used end more e, eq-eqb (get_or chunk (end - 1) 0) 10 lf, le-ltb room longest much) in
           let left : room - length said ≡ length before - (wrote + r) = omega (arith, w.long) in
-          let one : after used turn.text (ahead room hold kept number t (drop used chunk)) ≡ after (used + length p) (turn.text ++ said) rest = rw over (after_after used (length p) turn.text said rest) in
+          let one : after used turn.text (ahead room hold t (drop used chunk)) ≡ after (used + length p) (turn.text ++ said) rest = rw over (after_after used (length p) turn.text said rest) in
           record {
             text = turn.text ++ said;
             whole = turn.whole ∙ one ∙ rw (part_long chunk used end more e, left, n, f);
@@ -145,6 +139,4 @@ module _ {x : Step} {chunk first before t hold out : List ℕ} {used wrote kept 
             room = room_said h (begun ++ p) w;
             good = rw f (booked_sound t (begun ++ p) turn.good);
             table = ap length f ∙ booked_length t (begun ++ p) ∙ turn.table;
-            long = long;
-            few = omega arith;
           }

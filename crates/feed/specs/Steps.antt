@@ -1,5 +1,5 @@
 -- What one step over a chunk of the text does, and what is done at its end.
-use Rattle.std.specs.Prelude.{ℕ, ◌+◌, ◌-◌, ◌^◌, ◌≤◌, ◌≡◌, Bool, false, cond, List, [], ◌∷◌, ◌++◌, ltb, eqb, length, take}
+use Rattle.std.specs.Prelude.{ℕ, ◌+◌, ◌-◌, ◌^◌, ◌≡◌, Bool, false, cond, List, [], ◌∷◌, ◌++◌, ltb, eqb, length, take}
 use Rattle.std.proofs.lemmas.List.Edits.{sets}
 use Rattle.book.specs.Bytes.{book_bytes, book_answer}
 use Rattle.sheet.specs.Promises.{text_of}
@@ -11,6 +11,17 @@ use Rattle.feed.specs.declared.Fed.{Fed}
 -- what is kept from chunk to chunk: the front of a piece whose end has not come, the number of the piece to come, the bytes of the table
 pub data Between : Type 0 where
   between : (held : List ℕ) (line : ℕ) (table : List ℕ) → Between
+
+-- what the hold keeps beside the table: the front of that piece, and its number
+pub record Held : Type 0 where
+  pub piece : List ℕ
+  pub line : ℕ
+
+abbrev pub nothing_held : (line : ℕ) → Held
+nothing_held line = record { piece = []; line = line }
+
+abbrev pub between_of : Held → (table : List ℕ) → Between
+between_of held table = between held.piece held.line table
 
 -- the hold: no more of a piece than shows that it is too long, one byte more than a line
 abbrev pub hold_length : ℕ
@@ -79,17 +90,15 @@ last_table (between (b ∷ s) line table) = book_bytes table (b ∷ s)
 abbrev pub finished : Between → List ℕ
 finished x = last_said x ++ text_of (last_table x)
 
--- ---- what the functions leave in the lent bytes
+-- ---- what the functions leave in the hold and the lent bytes
 
 -- the first n bytes of the hold are in use
 abbrev pub held_in : List ℕ → ℕ → List ℕ
 held_in hold n = take n hold
 
 -- a step that the code made: `before` is the output buffer as it was, the last three are as they are afterwards
-pub record Fits (x : Step) (before : List ℕ) (r : Fed) (table hold out : List ℕ) : Type 0 where
+pub record Fits (x : Step) (before : List ℕ) (r : Fed) (table : List ℕ) (hold : Held) (out : List ℕ) : Type 0 where
   pub used : r.used ≡ used_of x
   pub wrote : r.wrote ≡ length (text_in x)
   pub written : out ≡ sets before 0 (text_in x)
-  pub kept : between (held_in hold r.held) r.line table ≡ kept_in x
-  pub long : length hold ≡ hold_length
-  pub few : r.held ≤ hold_length
+  pub kept : between_of hold table ≡ kept_in x

@@ -1,4 +1,4 @@
-// Booking a piece where it stands, or from the hold where it straddles two chunks.
+// The hold, which keeps the front of a piece that straddles two chunks; and booking a piece where it stands, or from the hold.
 ghost use Rattle.std.specs.Prelude.{◌≤◌, ◌≡◌, true, ◌++◌, length};
 ghost use Rattle.layout.specs.Line.{printable};
 ghost use Rattle.book.specs.Bytes.{book_answer, book_bytes};
@@ -6,22 +6,75 @@ ghost use Rattle.table.specs.Tables.{sound};
 ghost use Rattle.lookup.specs.Beside.{Beside};
 ghost use Rattle.row.specs.Writes.{Wrote};
 ghost use Rattle.feed.specs.Printed.{report as printed_report};
-ghost use Rattle.feed.specs.Steps.{held_in, hold_length, kept_of, longest};
+ghost use Rattle.feed.specs.Steps.{kept_of, longest, next_line, nothing_held};
 
-use crate::{HOLD, report};
+use crate::report;
 use book::Booking;
+use std::marker::Model;
 
-// A part of a piece behind what is held of it.
-pub fn keep(hold: &mut [u8], held: usize, part: &[u8]) -> usize
-    requires hold_len { length hold.old ≡ hold_length }
-    requires held_le_hold_length { held ≤ hold_length }
-    ensures result_after { held_in hold.new result ≡ kept_of (held_in hold.old held ++ part.now) }
-    ensures upper_bound { (result ≤ hold_length) × (length hold.new ≡ hold_length) }
-{
-    let room = HOLD - held;
-    let n = if part.len() < room { part.len() } else { room };
-    run::store(hold, held, &part[0..n]);
-    held + n
+// One byte more than a line, so that a piece that is too long is seen to be.
+const HOLD: usize = 141;
+
+// The front of the piece to come, as much of it as was seen and shows whether it is too long, and the number of that piece.
+#[derive(Drop)]
+pub struct Hold {
+    bytes: [u8; HOLD],
+    held: usize,
+    line: u64,
+}
+
+impl Model for Hold {
+    ghost use Rattle.std.specs.Prelude.{◌≤◌};
+    ghost use Rattle.feed.specs.Steps.{Held, held_in, hold_length};
+
+    ghost Value = { Held };
+
+    ghost view = { λ h. record { piece = held_in h.bytes h.held; line = h.line } };
+
+    ghost invariant = { λ h. h.held ≤ hold_length };
+}
+
+impl Hold {
+    // Before any of the piece of that number is seen.
+    pub fn at(line: u64) -> Hold
+        ensures { result ≡ nothing_held line }
+    {
+        Hold {
+            bytes: [0; HOLD],
+            held: 0,
+            line,
+        }
+    }
+
+    // A part of a piece behind what is held of it.
+    pub fn keep(&mut self, part: &[u8])
+        ensures piece { self.new.piece ≡ kept_of (self.old.piece ++ part.now) }
+        ensures line { self.new.line ≡ self.old.line }
+    {
+        let n = part.len().min(HOLD - self.held);
+        run::store(&mut self.bytes, self.held, &part[..n]);
+        self.held += n;
+    }
+
+    // The piece behind the one that is booked.
+    fn next(&mut self)
+        ensures { self.new ≡ nothing_held (next_line self.old.line) }
+    {
+        self.held = 0;
+        self.line = self.line.saturating_add(1);
+    }
+
+    pub fn piece(&self) -> &[u8]
+        ensures { result.now ≡ self.now.piece }
+    {
+        &self.bytes[..self.held]
+    }
+
+    pub fn line(&self) -> u64
+        ensures { result ≡ self.now.line }
+    {
+        self.line
+    }
 }
 
 fn book_piece(
@@ -51,21 +104,18 @@ pub fn book_held(
     t: &mut [u8],
     heads: &mut [u16],
     nexts: &mut [u16],
-    hold: &[u8],
-    held: usize,
-    line: u64,
+    hold: &Hold,
     out: &mut [u8],
 ) -> usize
     requires t_value { sound t.old ≡ true }
     requires beside { Beside t.old heads.old nexts.old }
-    requires held_in_bounds { held ≤ length hold.now }
     requires longest_in_bounds { longest ≤ length out.old }
-    ensures wrote { Wrote (printed_report line (book_answer t.old (held_in hold.now held))) out.old out.new result }
-    ensures t_after { t.new ≡ book_bytes t.old (held_in hold.now held) }
+    ensures wrote { Wrote (printed_report hold.now.line (book_answer t.old hold.now.piece)) out.old out.new result }
+    ensures t_after { t.new ≡ book_bytes t.old hold.now.piece }
     ensures beside_2 { Beside t.new heads.new nexts.new }
 {
     // Nobody has looked through what is held as one piece.
-    book_piece(t, heads, nexts, &hold[0..held], false, line, out)
+    book_piece(t, heads, nexts, hold.piece(), false, hold.line(), out)
 }
 
 // The part of a chunk that ends a piece. Where nothing is held it is the piece.
@@ -73,27 +123,26 @@ pub fn book_part(
     t: &mut [u8],
     heads: &mut [u16],
     nexts: &mut [u16],
-    hold: &mut [u8],
-    held: usize,
+    hold: &mut Hold,
     part: &[u8],
     plain: bool,
-    line: u64,
     out: &mut [u8],
 ) -> usize
     requires t_value { sound t.old ≡ true }
     requires beside { Beside t.old heads.old nexts.old }
-    requires hold_len { length hold.old ≡ hold_length }
-    requires held_le_hold_length { held ≤ hold_length }
     requires longest_in_bounds { longest ≤ length out.old }
     requires part_value { plain ≡ true → printable part.now ≡ true }
-    ensures wrote { Wrote (printed_report line (book_answer t.old (held_in hold.old held ++ part.now))) out.old out.new result }
-    ensures t_after { t.new ≡ book_bytes t.old (held_in hold.old held ++ part.now) }
+    ensures wrote { Wrote (printed_report hold.old.line (book_answer t.old (hold.old.piece ++ part.now))) out.old out.new result }
+    ensures t_after { t.new ≡ book_bytes t.old (hold.old.piece ++ part.now) }
     ensures beside_2 { Beside t.new heads.new nexts.new }
-    ensures hold_len_2 { length hold.new ≡ hold_length }
+    ensures hold_after { hold.new ≡ nothing_held (next_line hold.old.line) }
 {
-    if held == 0 {
-        return book_piece(t, heads, nexts, part, plain, line, out);
-    }
-    let n = keep(hold, held, part);
-    book_held(t, heads, nexts, hold, n, line, out)
+    let said = if hold.piece().is_empty() {
+        book_piece(t, heads, nexts, part, plain, hold.line(), out)
+    } else {
+        hold.keep(part);
+        book_held(t, heads, nexts, hold, out)
+    };
+    hold.next();
+    said
 }

@@ -16,20 +16,16 @@ bounds c = piece_bounds c.args.chunk.now c.loop-used.used c.cut-cut.result.end c
 pub loop-used-init : goal.loop-used-init
 loop-used-init c =
     let a = c.args in
-    (first_turn a.chunk.now a.t.now a.hold.now a.out.now a.held a.line c.requires.t_value (search rules) (search rules), c.requires.beside, refl, refl)
+    (first_turn a.chunk.now a.t.now a.hold.now a.out.now c.requires.t_value, c.requires.beside, refl, refl)
+
+pub slice_bounds-part-end : goal.slice_bounds-part-end
+slice_bounds-part-end c = search (rules, bounds c)
 
 pub overflow_sub-end : goal.overflow_sub-end
-overflow_sub-end c = search (rules, bounds c)
+overflow_sub-end c = search (rules, bounds (goal.at.overflow_sub-end c).After-cut-cut)
 
 pub bounds-chunk-end : goal.bounds-chunk-end
 bounds-chunk-end c = search (rules, bounds (goal.at.bounds-chunk-end c).After-cut-cut)
-
-pub slice_bounds-keep-end : goal.slice_bounds-keep-end
-slice_bounds-keep-end c = search (rules, bounds (goal.at.slice_bounds-keep-end c).After-cut-cut)
-
-pub keep-begun-requires : goal.keep-begun-requires
-keep-begun-requires c = let turn = c.loop-used.invariant.0 in
-    record { hold_len = turn.long; held_le_hold_length = turn.few }
 
 pub shape_of-t-then-chunk-end-ne-LF : goal.shape_of-t-then-chunk-end-ne-LF
 shape_of-t-then-chunk-end-ne-LF c = c.loop-used.invariant.0.table
@@ -46,8 +42,8 @@ shape_of-out-then-chunk-end-ne-LF c = same_long c.loop-used.invariant.0
 pub returns-then-chunk-end-ne-LF : goal.returns-then-chunk-end-ne-LF
 returns-then-chunk-end-ne-LF c =
     let inv = c.loop-used.invariant in
-    let kept = c.keep-begun.ensures in
-    record { fits = keeps_begun inv.0 c.cut-cut.result.end c.loop-used-test.true c.cut-cut.ensures.ends c.if-chunk-end-ne-LF.true kept.result_after kept.upper_bound.0 kept.upper_bound.1; t_after = inv.0.good; beside_2 = inv.1 }
+    let kept = c.keep.ensures in
+    record { fits = keeps_begun inv.0 c.cut-cut.result.end c.loop-used-test.true c.cut-cut.ensures.ends c.if-chunk-end-ne-LF.true kept.piece kept.line; t_after = inv.0.good; beside_2 = inv.1 }
 
 pub overflow_sub-out : goal.overflow_sub-out
 overflow_sub-out c = search (rules, same_long c.loop-used.invariant.0)
@@ -69,26 +65,23 @@ returns-then-out-wrote-lt-LONGEST c =
     let inv = c.loop-used.invariant in
     record { fits = stops inv.0 c.cut-cut.result.end c.loop-used-test.true c.cut-cut.ensures.ends c.if-chunk-end-ne-LF.false c.if-out-wrote-lt-LONGEST.true; t_after = inv.0.good; beside_2 = inv.1 }
 
-pub slice_bounds-book_part-end : goal.slice_bounds-book_part-end
-slice_bounds-book_part-end c = search (rules, bounds (goal.at.slice_bounds-book_part-end c).After-cut-cut)
-
-pub book_part-said-requires : goal.book_part-said-requires
-book_part-said-requires c =
+pub book_part-wrote-requires : goal.book_part-wrote-requires
+book_part-wrote-requires c =
     let inv = c.loop-used.invariant in
-    record { t_value = inv.0.good; beside = inv.1; hold_len = inv.0.long; held_le_hold_length = inv.0.few; longest_in_bounds = room_lent inv.0 c.if-out-wrote-lt-LONGEST.false; part_value = λ e. plain_lent _ _ _ c.cut-cut.ensures.ends (c.cut-cut.ensures.plain e) }
+    record { t_value = inv.0.good; beside = inv.1; longest_in_bounds = room_lent inv.0 c.if-out-wrote-lt-LONGEST.false; part_value = λ e. plain_lent _ _ _ c.cut-cut.ensures.ends (c.cut-cut.ensures.plain e) }
 
 pub overflow_add-wrote : goal.overflow_add-wrote
 overflow_add-wrote c =
-    search (rules, c.well_formed, room_said c.loop-used.invariant.0 c.if-out-wrote-lt-LONGEST.false _ c.book_part-said.ensures.wrote)
+    search (rules, c.well_formed, room_said c.loop-used.invariant.0 c.if-out-wrote-lt-LONGEST.false _ c.book_part-wrote.ensures.wrote)
 
 pub loop-used-smaller : goal.loop-used-smaller
 loop-used-smaller c = omega (arith, bounds (goal.at.loop-used-smaller c).After-cut-cut)
 
 pub loop-used-preserved : goal.loop-used-preserved
 loop-used-preserved c =
-    let said = c.book_part-said.ensures in
+    let said = c.book_part-wrote.ensures in
     let inv = c.loop-used.invariant in
-    (next_turn inv.0 c.cut-cut.result.end c.loop-used-test.true c.cut-cut.ensures.ends c.if-chunk-end-ne-LF.false c.if-out-wrote-lt-LONGEST.false (said.wrote, said.t_after) said.hold_len_2 c.next_line-number.ensures, said.beside_2, search rules, search rules)
+    (next_turn inv.0 c.cut-cut.result.end c.loop-used-test.true c.cut-cut.ensures.ends c.if-chunk-end-ne-LF.false c.if-out-wrote-lt-LONGEST.false (said.wrote, said.t_after) said.hold_after, said.beside_2, search rules, search rules)
 
 pub shape_of-t : goal.shape_of-t
 shape_of-t c = c.loop-used.invariant.0.table

@@ -1,29 +1,36 @@
 -- `feed::hold::book_part` meets its contract: where nothing is held the part is the piece; else what is kept of the piece says what it says.
-use native.Mathlib.Omega.{arith}
-use Rattle.feed.proofs.Saying.{part_says, verbatim_says}
+use mathlib.Core.Path.{◌≡◌, ap, ◌∙◌}
+use mathlib.Core.List.{◌++◌}
 use borrow.Author.Rules.{rules}
+use Rattle.feed.specs.Steps.{next_line, nothing_held}
+use Rattle.feed.proofs.Saying.{part_says, verbatim_says}
 use Rattle.feed.proofs.hold.book_part.Goals as goal
-
-pub book_piece-requires : goal.book_piece-requires
-book_piece-requires c = let pre = c.requires in
-    record { t_value = pre.t_value; beside = pre.beside; longest_in_bounds = pre.longest_in_bounds; piece_value = pre.part_value }
-
-pub returns-then-held-eq0 : goal.returns-then-held-eq0
-returns-then-held-eq0 c =
-    let a = c.args in
-    let booked = c.book_piece.ensures in
-    let s = part_says a.line a.t.now a.hold.now a.part.now a.held c.if-held-eq0.true (booked.wrote, booked.t_after) in
-    record { wrote = s.0; t_after = s.1; beside_2 = booked.beside_2; hold_len_2 = search rules }
-
-pub book_held-requires : goal.book_held-requires
-book_held-requires c =
-    let kept = c.keep-n.ensures.upper_bound in
-    let pre = c.requires in
-    record { t_value = pre.t_value; beside = pre.beside; held_in_bounds = omega (arith, kept); longest_in_bounds = search rules }
+use Rattle.feed.proofs.hold.book_part.Goals.{then-is_empty, else-is_empty}
 
 pub returns : goal.returns
 returns c =
     let a = c.args in
-    let booked = c.book_held.ensures in
-    let s = verbatim_says a.line a.t.now _ _ c.keep-n.ensures.result_after (booked.wrote, booked.t_after) in
-    record { wrote = s.0; t_after = s.1; beside_2 = booked.beside_2; hold_len_2 = search rules }
+    let piece = a.hold.now.piece in
+    elim c.if-is_empty.branch [
+      | then-is_empty w ↦
+          let said = w.book_piece-said.ensures in
+          let s = part_says w.line.result a.t.now piece a.part.now (rw (← c.piece.ensures) (search rules)) (said.wrote, said.t_after) in
+          let line : c.if-is_empty.hold.line ≡ a.hold.now.line = ap (λ h. h.line) w.hold-is in
+          record {
+            wrote = rw (w.out-is, w.said-is, ← w.line.ensures) s.0;
+            t_after = w.t-is ∙ s.1;
+            beside_2 = rw (w.t-is, w.heads-is, w.nexts-is) said.beside_2;
+            hold_after = c.next.ensures ∙ ap (λ l. nothing_held (next_line l)) line;
+          }
+      | else-is_empty w ↦
+          let hold = w.keep.new.self in
+          let said = w.book_held-said.ensures in
+          let s = verbatim_says hold.line a.t.now hold.piece (piece ++ a.part.now) w.keep.ensures.piece (said.wrote, said.t_after) in
+          let line : c.if-is_empty.hold.line ≡ a.hold.now.line = ap (λ h. h.line) w.hold-is ∙ w.keep.ensures.line in
+          record {
+            wrote = rw (w.out-is, w.said-is, ← w.keep.ensures.line) s.0;
+            t_after = w.t-is ∙ s.1;
+            beside_2 = rw (w.t-is, w.heads-is, w.nexts-is) said.beside_2;
+            hold_after = c.next.ensures ∙ ap (λ l. nothing_held (next_line l)) line;
+          }
+    ]
