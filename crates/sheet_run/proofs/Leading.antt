@@ -2,21 +2,22 @@
 use Prim.Native.Nat.{ℕ, ◌^◌, ◌≤◌, ◌<◌}
 use native.Mathlib.Omega.{arith}
 use mathlib.Core.Path.{◌≡◌, refl, ◌∙◌, ap}
-use mathlib.Core.Bool.{true, false, false≢true}
+use mathlib.Core.Bool.{true}
 use mathlib.Core.List.{List, [], ◌++◌, append_assoc, append-nil}
 use lib.ListN.{length, take}
+use Rattle.std.specs.Prelude.{Result, Ok, Err}
+use Rattle.std.proofs.lemmas.Result.{on_ok_weaker}
 use Rattle.table.specs.Tables.{limit_of, sound}
 use Rattle.run.proofs.Parts.{part_whole}
 use Rattle.table.proofs.Making.{empty_sound}
 use Rattle.book.specs.Bytes.{bytes_after}
 use Rattle.piece.specs.Pieces.{pieces}
 use Rattle.feed.specs.Printed.{printed}
-use Rattle.feed.specs.Steps.{Between, between, finished, held_in, hold_length, room_at_end}
+use Rattle.feed.specs.Steps.{Between, between, between_of, finished, Held, room_at_end}
 use Rattle.feed.specs.Whole.Calls.{none}
 use Rattle.feed.proofs.Finishing.{finished_most}
 use Rattle.feed.proofs.Whole.{whole}
 use Rattle.sheet_run.specs.Promises.{Leads, Takes, Reads, Ends, Prints}
-use Rattle.sheet_run.specs.declared.Kept.{Kept}
 
 -- ---- texts
 
@@ -28,38 +29,20 @@ then_leads p q = record { said = p.said ++ q.said; onward = λ c. simp append_as
 
 -- ---- what a program reads
 
--- between two chunks, with all that was said written out
-abbrev pub gone : ℕ → ℕ → Kept
-gone held line = record { held = held; line = line; good = true }
+pub nothing_read : {E : Type 0} (hold : Held) (t : List ℕ) → sound t ≡ true → Reads {T = Unit {0}} {E = E} (between_of hold t) (Ok tt) t hold
+nothing_read hold t good = record { text = []; takes = record { leads = nothing_leads (between_of hold t); sound = good } }
 
-pub nothing_read : (hold t : List ℕ) (line : ℕ) → length hold ≡ hold_length → sound t ≡ true → Reads (between [] line t) (gone 0 line) t hold
-nothing_read hold t line long good =
-    record { text = []; takes = record { leads = λ _. nothing_leads (between [] line t); few = omega arith; long = long; sound = good } }
-
-pub more_read : {x : Between} {held line : ℕ} {chunk t hold t₁ hold₁ : List ℕ} {r : Kept} → Reads x (gone held line) t hold
-    → Takes (between (held_in hold held) line t) chunk r t₁ hold₁ → Reads x r t₁ hold₁
+pub more_read : {E F : Type 0} {x : Between} {chunk t t₁ : List ℕ} {hold hold₁ : Held} {r : Result (Unit {0}) E} → Reads {T = Unit {0}} {E = F} x (Ok tt) t hold
+    → Takes (between_of hold t) chunk r t₁ hold₁ → Reads x r t₁ hold₁
 more_read {chunk} p q =
     record {
       text = p.text ++ chunk;
-      takes = record { leads = λ e. then_leads (p.takes.leads refl) (q.leads e); few = q.few; long = q.long; sound = q.sound };
-    }
-
--- another chunk may come
-pub goes_on : {x : Between} {r : Kept} {t hold : List ℕ} → r.good ≡ true → Reads x r t hold → Reads x (gone r.held r.line) t hold
-goes_on e p =
-    record {
-      text = p.text;
-      takes = record { leads = λ _. p.takes.leads e; few = p.takes.few; long = p.takes.long; sound = p.takes.sound };
+      takes = record { leads = on_ok_weaker _ (then_leads p.takes.leads) q.leads; sound = q.sound };
     }
 
 -- the end of the input is not reached
-pub unread : {x : Between} {held line : ℕ} {t hold : List ℕ} → Reads x (gone held line) t hold
-    → Reads x (record { held = held; line = line; good = false }) t hold
-unread p =
-    record {
-      text = p.text;
-      takes = record { leads = λ e. absurd (false≢true e); few = p.takes.few; long = p.takes.long; sound = p.takes.sound };
-    }
+pub unread : {E : Type 0} {x : Between} {t : List ℕ} {hold : Held} (e : E) → Reads {T = Unit {0}} {E = E} x (Ok tt) t hold → Reads {T = Unit {0}} x (Err e) t hold
+unread e p = record { text = p.text; takes = record { leads = tt; sound = p.takes.sound } }
 
 -- ---- the whole program
 
@@ -71,12 +54,12 @@ module _ (before : List ℕ) {begun : List ℕ} (b : begun ≡ bytes_after befor
   pub begun_sound : 0 < limit_of (length before) → sound begun ≡ true
   begun_sound meant = ap sound b ∙ empty_sound before meant
 
-  pub all_printed : {t hold : List ℕ} {r : Kept} → Reads (between [] 1 begun) r t hold → r.good ≡ true → {buffer last out : List ℕ}
-      → Ends (between (held_in hold r.held) r.line t) buffer last out → room_at_end (limit_of (length t)) ≤ length buffer → Prints before out
-  all_printed {t} {hold} {r} p e {buffer} {out} w h =
-      let y = between (held_in hold r.held) r.line t in
-      let l = p.takes.leads e in
-      let most = finished_most (held_in hold r.held) r.line t p.takes.sound in
+  pub all_printed : {E : Type 0} {t : List ℕ} {hold : Held} → Reads {T = Unit {0}} {E = E} (between [] 1 begun) (Ok tt) t hold → {buffer last out : List ℕ}
+      → Ends (between_of hold t) buffer last out → room_at_end (limit_of (length t)) ≤ length buffer → Prints before out
+  all_printed {t} {hold} p {buffer} {out} w h =
+      let y = between_of hold t in
+      let l = p.takes.leads in
+      let most = finished_most hold.piece hold.line t p.takes.sound in
       record {
         text = p.text;
         said = l.said;
