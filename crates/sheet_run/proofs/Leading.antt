@@ -1,50 +1,45 @@
 -- Chunk after chunk: what is taken is one text, and what is written for it is what 01 says.
 use Prim.Native.Nat.{ℕ, ◌^◌, ◌≤◌, ◌<◌}
 use native.Mathlib.Omega.{arith}
-use mathlib.Core.Path.{◌≡◌, refl, ◌∙◌, ap}
+use mathlib.Core.Path.{◌≡◌, refl, sym, ◌∙◌, ap}
 use mathlib.Core.Bool.{true}
 use mathlib.Core.List.{List, [], ◌++◌, append_assoc, append-nil}
-use lib.ListN.{length, take}
-use Rattle.std.specs.Prelude.{Result, Ok, Err}
-use Rattle.std.proofs.lemmas.Result.{on_ok_weaker}
-use Rattle.table.specs.Tables.{limit_of, sound}
+use lib.ListN.{length, replicate, take, length-replicate}
+use Rattle.std.specs.Prelude.{Ok}
+use Rattle.table.specs.Tables.{least_limit, limit_of, sound, table_length}
 use Rattle.run.proofs.Parts.{part_whole}
+use Rattle.table.proofs.Limits.{limit_is}
 use Rattle.table.proofs.Making.{empty_sound}
 use Rattle.book.specs.Bytes.{bytes_after}
 use Rattle.piece.specs.Pieces.{pieces}
 use Rattle.feed.specs.Printed.{printed}
 use Rattle.feed.specs.Steps.{Between, between, between_of, finished, Held, room_at_end}
 use Rattle.feed.specs.Whole.Calls.{none}
-use Rattle.feed.proofs.Finishing.{finished_most}
+use Rattle.feed.proofs.Finishing.{finished_most, least_room}
 use Rattle.feed.proofs.Whole.{whole}
 use Rattle.sheet_run.specs.Promises.{Leads, Takes, Reads, Ends, Prints}
 
 -- ---- texts
-
-nothing_leads : (x : Between) → Leads x [] x
-nothing_leads x = record { said = []; onward = λ c. c }
 
 then_leads : {x y z : Between} {a b : List ℕ} → Leads x a y → Leads y b z → Leads x (a ++ b) z
 then_leads p q = record { said = p.said ++ q.said; onward = λ c. simp append_assoc (p.onward (q.onward c)) }
 
 -- ---- what a program reads
 
-pub nothing_read : {E : Type 0} (hold : Held) (t : List ℕ) → sound t ≡ true → Reads {T = Unit {0}} {E = E} (between_of hold t) (Ok tt) t hold
-nothing_read hold t good = record { text = []; takes = record { leads = nothing_leads (between_of hold t); sound = good } }
-
-pub more_read : {E F : Type 0} {x : Between} {chunk t t₁ : List ℕ} {hold hold₁ : Held} {r : Result (Unit {0}) E} → Reads {T = Unit {0}} {E = F} x (Ok tt) t hold
-    → Takes (between_of hold t) chunk r t₁ hold₁ → Reads x r t₁ hold₁
+-- a chunk that was taken, whatever a failure would be
+pub more_read : {E F : Type 0} {x : Between} {chunk t t₁ : List ℕ} {hold hold₁ : Held} {u : Unit {0}} → Reads {T = Unit {0}} {E = F} x (Ok tt) t hold
+    → Takes {T = Unit {0}} {E = E} (between_of hold t) chunk (Ok u) t₁ hold₁ → Reads {T = Unit {0}} {E = F} x (Ok tt) t₁ hold₁
 more_read {chunk} p q =
-    record {
-      text = p.text ++ chunk;
-      takes = record { leads = on_ok_weaker _ (then_leads p.takes.leads) q.leads; sound = q.sound };
-    }
-
--- the end of the input is not reached
-pub unread : {E : Type 0} {x : Between} {t : List ℕ} {hold : Held} (e : E) → Reads {T = Unit {0}} {E = E} x (Ok tt) t hold → Reads {T = Unit {0}} x (Err e) t hold
-unread e p = record { text = p.text; takes = record { leads = tt; sound = p.takes.sound } }
+    record { text = p.text ++ chunk; takes = record { leads = then_leads p.takes.leads q.leads; sound = q.sound } }
 
 -- ---- the whole program
+
+-- a length of the least limit has that limit, and 46,662 bytes are room enough at the end
+pub least_lent : (n : ℕ) → n ≡ table_length least_limit → (0 < limit_of n) × (limit_of n ≡ 512) × (room_at_end (limit_of n) ≡ 46662)
+least_lent n e =
+    let zeros = length-replicate {A = ℕ} n 0 in
+    let room = rw zeros at (least_room (replicate n 0) (zeros ∙ e)) in
+    (room.0, sym (limit_is n e), room.1)
 
 -- room for the end of the text stays where table and output buffer keep their lengths
 pub room_kept : {table first out before : ℕ} → table ≡ first → out ≡ before → room_at_end (limit_of first) ≤ before → room_at_end (limit_of table) ≤ out

@@ -1,13 +1,17 @@
 -- `drop_sheet::main` is safe: its table has the least limit and room for an index, and its output has room for the end of the text.
 use native.Mathlib.Omega.{arith}
 use mathlib.Core.Path.{sym}
-use Rattle.table.proofs.Limits.{limit_is}
-use Rattle.feed.proofs.Finishing.{least_room}
-use borrow.Author.Rules.{rules}
+use Rattle.table.proofs.Limits.{least_length}
+use Rattle.sheet_run.proofs.Leading.{least_lent}
 use Rattle.drop_sheet.proofs.main.Goals as goal
 
-pub run-requires : goal.run-requires
-run-requires c =
-    let table = c.table_buffer-table in
-    let room = least_room table.result (sym table.ensures) in
-    record { nonzero = room.0; in_bounds = (omega (arith, c.heads_buffer-heads.ensures), omega (arith, c.nexts_buffer-nexts.ensures, limit_is _ (sym table.ensures))); hold_len = search rules; t_in_bounds = omega (arith, room.1, c.large_buffer-out.ensures) }
+pub run-requires-clause-nonzero : goal.run-requires-clause-nonzero
+run-requires-clause-nonzero c = (least_lent 47240 (sym least_length)).0
+
+pub run-requires-clause-in_bounds : goal.run-requires-clause-in_bounds
+run-requires-clause-in_bounds c =
+    let limit = (least_lent 47240 (sym least_length)).1 in
+    (omega (arith, c.heads_buffer-heads.ensures), omega (arith, limit, c.nexts_buffer-nexts.ensures))
+
+pub run-requires-clause-t_in_bounds : goal.run-requires-clause-t_in_bounds
+run-requires-clause-t_in_bounds c = omega (arith, (least_lent 47240 (sym least_length)).2)
