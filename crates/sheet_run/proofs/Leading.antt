@@ -8,7 +8,7 @@ use lib.ListN.{length, replicate, take, length-replicate}
 use Rattle.std.specs.Prelude.{Ok}
 use Rattle.table.specs.Tables.{least_limit, limit_of, sound, table_length}
 use Rattle.run.proofs.Parts.{part_whole}
-use Rattle.table.proofs.Limits.{limit_is}
+use Rattle.table.proofs.Limits.{least_length, limit_is}
 use Rattle.table.proofs.Making.{empty_sound}
 use Rattle.book.specs.Bytes.{bytes_after}
 use Rattle.piece.specs.Pieces.{pieces}
@@ -34,12 +34,15 @@ more_read {chunk} p q =
 
 -- ---- the whole program
 
--- a length of the least limit has that limit, and 46,662 bytes are room enough at the end
-pub least_lent : (n : ℕ) → n ≡ table_length least_limit → (0 < limit_of n) × (limit_of n ≡ 512) × (room_at_end (limit_of n) ≡ 46662)
-least_lent n e =
-    let zeros = length-replicate {A = ℕ} n 0 in
-    let room = rw zeros at (least_room (replicate n 0) (zeros ∙ e)) in
-    (room.0, sym (limit_is n e), room.1)
+-- a table of the length that the sheet program lends has a limit, and an output of 46,662 bytes has room for all that is said at its end
+pub least_table : (0 < limit_of 47240) × (limit_of 47240 ≡ 512) × (room_at_end (limit_of 47240) ≡ 46662)
+least_table = lent 47240 (sym least_length)
+  where
+    lent : (n : ℕ) → n ≡ table_length least_limit → (0 < limit_of n) × (limit_of n ≡ 512) × (room_at_end (limit_of n) ≡ 46662)
+    lent n e =
+        let zeros = length-replicate {A = ℕ} n 0 in
+        let room = rw zeros at (least_room (replicate n 0) (zeros ∙ e)) in
+        (room.0, sym (limit_is n e), room.1)
 
 -- room for the end of the text stays where table and output buffer keep their lengths
 pub room_kept : {table first out before : ℕ} → table ≡ first → out ≡ before → room_at_end (limit_of first) ≤ before → room_at_end (limit_of table) ≤ out

@@ -17,6 +17,7 @@ pub fn begin(t: &mut [u8], heads: &mut [u16], nexts: &mut [u16])
     requires nonzero { 0 < limit_of (length t.old) }
     requires in_bounds { (1 ≤ length heads.old) × (limit_of (length t.old) ≤ length nexts.old) }
     ensures t_after { t.new ≡ bytes_after t.old [] }
+    ensures t_sound { sound t.new ≡ true }
     ensures beside { Beside t.new heads.new nexts.new }
 {
     table::make_empty(t);

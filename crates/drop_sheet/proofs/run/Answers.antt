@@ -1,10 +1,7 @@
 -- `drop_sheet::run` meets its contract: from the empty table, over what is read, to the end.
 use mathlib.Core.Path.{◌∙◌}
-use Rattle.sheet_run.proofs.Leading.{room_kept, begun_sound, all_printed}
+use Rattle.sheet_run.proofs.Leading.{room_kept, all_printed}
 use Rattle.drop_sheet.proofs.run.Goals as goal
-
-pub read_all-requires-clause-t_value : goal.read_all-requires-clause-t_value
-read_all-requires-clause-t_value g c = begun_sound c.args.t.now c.begin.ensures.t_after c.requires.nonzero
 
 pub returns : goal.returns
 returns g c =
