@@ -7,6 +7,7 @@ use mathlib.Core.List.{List, [], ◌∷◌}
 use lib.Dec.{eqb}
 use lib.ListN.{length}
 use lib.Seq.{sets, length-sets}
+use Rattle.std.specs.Prelude.{Result, Ok, Err}
 use Rattle.refusal.specs.Answer.{value, refused_by}
 use Rattle.refusal.specs.declared.Refusal.{Refusal}
 use Rattle.refusal.specs.declared.Refusal.TheVariants.{Damaged, DayOver}
@@ -15,13 +16,9 @@ use Rattle.run.proofs.Parts.{part_part}
 use Rattle.layout.proofs.Names.{source_said, token_said, said_length}
 use Rattle.layout.specs.Line.{Said, line, end_of_day, read}
 use Rattle.layout.specs.declared.Record.{Record}
-use Rattle.line.specs.Promises.{said_of}
-use Rattle.line.specs.declared.Outcome.{Outcome}
 use Rattle.order.specs.Names.{key_of}
 use Rattle.order.specs.declared.Figures.{Figures}
 use Rattle.order.specs.declared.Order.{Order}
-use Rattle.quote.specs.Quotes.{quote_of, new_row}
-use Rattle.quote.specs.declared.Quote.{Quote}
 use Rattle.quote.specs.declared.QuoteRow.{QuoteRow}
 use Rattle.day.specs.Machine.{place, refusal_of, with_figures, with_price, new_order}
 use Rattle.slot.specs.Slots.{key_in, order_in, slot_bytes}
@@ -34,12 +31,10 @@ use Rattle.lookup.proofs.Beside.{over_beside, changed_beside, row_changed_beside
 use Rattle.table.proofs.Holding.{count_kept}
 use Rattle.table.proofs.Sound.{sound_apart}
 use Rattle.book.specs.Bytes.{book_bytes, book_answer}
-use Rattle.book.specs.Plans.{refigured, resummed, Plans, RoomFor, Carried, BooksSaid, answer_of, after_plan}
-use Rattle.book.specs.Promises.{Books, booking_of}
-use Rattle.book.specs.declared.Booking.{Booking}
-use Rattle.book.specs.declared.Booking.TheVariants.{Booked, Refused}
+use Rattle.book.specs.Plans.{refigured, resummed, Plans, BooksSaid, after_plan}
+use Rattle.book.specs.Promises.{Books}
 use Rattle.book.specs.declared.Plan.{Plan}
-use Rattle.book.specs.declared.Plan.TheVariants.{Replace, NewRow}
+use Rattle.book.specs.declared.Plan.TheVariants.{Replace}
 
 -- ---- the line of a record
 
@@ -82,10 +77,8 @@ module _ {s heads nexts : List ℕ} (good : sound s ≡ true) (x : Beside s head
   pub made_beside : (w : QuoteRow) → u ≡ row_appended w s → Beside u heads nexts
   made_beside w e = rw e (row_appended_beside x (sound_apart s good).bytes.few w)
 
--- the first E of a quote makes its row
-pub row_made : (s u : List ℕ) (r : Record) (q : Quote) (w : QuoteRow) → q ≡ quote_of r → w ≡ new_row q r.contracts → u ≡ row_appended w s
-    → u ≡ after_plan NewRow r s
-row_made s u r q w e f g = g ∙ ap (λ v. row_appended v s) (f ∙ ap (λ k. new_row k r.contracts) e)
+-- what carrying out a plan cites of them
+pub ruleset kept_beside = (free_kept, refigured_beside, repriced_beside, made_beside)
 
 -- the elder's figures, then the order that names it
 pub one_replaced : (s u v : List ℕ) (i : ℕ) (f : Figures) (r : Record) (o : Order) → u ≡ refigured i f s → o ≡ new_order r r.contracts (i + 1) → v ≡ appended o u
@@ -94,29 +87,21 @@ one_replaced s u v i f r o e k g = g ∙ ap₂ appended k e
 
 -- ---- a plan is carried out
 
-pub plan_is : (s : List ℕ) (r : Record) (q p : Plan) → Plans s r q → q ≡ p → Plans s r p
-plan_is s r q p h e = rw e at h
+pub planned : {s : List ℕ} {r : Record} {p : Plan} {after : List ℕ} → Plans s r (Ok p) → after ≡ after_plan p r s → BooksSaid s (line r) (Ok tt) after
+planned plan e = record { said = plan.said; out = e ∙ plan.out }
 
--- the plan that is carried out, p, is known to be q
-pub room_for : (s : List ℕ) (p q : Plan) → p ≡ q → RoomFor p s → RoomFor q s
-room_for s p q e h = rw e at h
-
-pub carried : (s : List ℕ) (r : Record) (p q : Plan) (b : Booking) (after : List ℕ) → p ≡ q → booking_of b ≡ answer_of q → after ≡ after_plan q r s
-    → Carried s p r b after
-carried s r p q b after e said out = rw e (record { said = said; out = out })
-
-pub planned : {s : List ℕ} {r : Record} {p : Plan} {b : Booking} {after : List ℕ} → Plans s r p → Carried s p r b after → BooksSaid s (line r) b after
-planned plan c = record { said = c.said ∙ plan.said; out = c.out ∙ plan.out }
+pub unplanned : {s : List ℕ} {r : Record} {x : Refusal} → Plans s r (Err x) → BooksSaid s (line r) (Err x) s
+unplanned plan = record { said = plan.said; out = plan.out }
 
 -- ---- end of day
 
-pub over_before : (s : List ℕ) → (table_in s).over ≡ true → BooksSaid s end_of_day (Refused DayOver) s
+pub over_before : (s : List ℕ) → (table_in s).over ≡ true → BooksSaid s end_of_day (Err DayOver) s
 over_before s e = record { said = rw e; out = rw e }
 
-pub over_now : (s after : List ℕ) → (table_in s).over ≡ false → after ≡ sets s 4 (1 ∷ []) → BooksSaid s end_of_day Booked after
+pub over_now : (s after : List ℕ) → (table_in s).over ≡ false → after ≡ sets s 4 (1 ∷ []) → BooksSaid s end_of_day (Ok tt) after
 over_now s after e f = record { said = rw e; out = rw e f }
 
-pub end_beside : {s : List ℕ} {b : Booking} {after heads nexts : List ℕ} → BooksSaid s end_of_day b after → Beside s heads nexts → Beside after heads nexts
+pub end_beside : {s : List ℕ} {b : Result (Unit {0}) Refusal} {after heads nexts : List ℕ} → BooksSaid s end_of_day b after → Beside s heads nexts → Beside after heads nexts
 end_beside {s} {heads = heads} {nexts = nexts} k x = rw k.out (go (eqb (refusal_of (limit_of (length s)) (table_in s) end_of_day) 0))
   where
     go : (t : Bool) → Beside (cond t (sets s 4 (1 ∷ [])) s) heads nexts
@@ -125,18 +110,15 @@ end_beside {s} {heads = heads} {nexts = nexts} k x = rw k.out (go (eqb (refusal_
 
 -- ---- a piece
 
-pub outcome_is : (piece : List ℕ) (o q : Outcome) (r : Record) → o ≡ q → said_of o r ≡ read piece → said_of q r ≡ read piece
-outcome_is piece o q r e h = rw e at h
-
-pub damaged : (s piece : List ℕ) → sound s ≡ false → Books s piece (Refused Damaged) s
+pub damaged : (s piece : List ℕ) → sound s ≡ false → Books s piece (Err Damaged) s
 unfolding book_bytes book_answer
 damaged s piece e = record { said = rw e; out = rw e }
 
 module _ (s piece : List ℕ) (e : sound s ≡ true) where
-  pub unread : (x : Refusal) → refused_by x ≡ read piece → Books s piece (Refused x) s
+  pub unread : (x : Refusal) → refused_by x ≡ read piece → Books s piece (Err x) s
   unfolding book_bytes book_answer
   unread x f = record { said = rw (e, ← f); out = rw (e, ← f) }
 
-  pub read_as : (x : Said) (b : Booking) (after : List ℕ) → value x ≡ read piece → BooksSaid s x b after → Books s piece b after
+  pub read_as : (x : Said) (b : Result (Unit {0}) Refusal) (after : List ℕ) → value x ≡ read piece → BooksSaid s x b after → Books s piece b after
   unfolding book_bytes book_answer
   read_as x b after f k = record { said = rw (e, ← f) k.said; out = rw (e, ← f) k.out }

@@ -1,7 +1,5 @@
 -- What a sound table gives to a line
 pub mod There
--- What the conditions of a line say of its order
-pub mod Judged
 -- Each way out of planning a line keeps the promise
 pub mod Planned
 -- Each way out of booking a piece keeps the promise

@@ -6,7 +6,7 @@ use mathlib.Core.Bool.{Bool, true, false, cond, ◌&&◌, false≢true, and-true
 use mathlib.Core.List.{List}
 use lib.Dec.{eqb, leb}
 use lib.ListN.{length}
-use Rattle.refusal.specs.Answer.{value}
+use Rattle.std.specs.Prelude.{Result, Ok, Err}
 use Rattle.refusal.specs.Numbers.{number_of, field_of}
 use Rattle.refusal.specs.declared.Refusal.{Refusal}
 use Rattle.refusal.specs.declared.Refusal.TheVariants.{DayOver, KnownKey, UnknownKey, OtherSeries, NotOpen, NotExecuted, Full, RowFull}
@@ -35,14 +35,14 @@ use Rattle.quote_slot.specs.QuoteSlots.{row_in}
 use Rattle.table.specs.Changes.{changed_at, changed, appended, row_of, row_changed_at, row_changed}
 use Rattle.table.specs.Tables.{limit_of, table_in, sound}
 use Rattle.book.specs.Bytes.{event_bytes, fill_bytes}
-use Rattle.book.specs.Plans.{Plans, RoomFor, plan_by, plan_about, plan_fill, plan_row, answer_of, after_plan}
+use Rattle.book.specs.Plans.{Older, Plans, RoomFor, plan_by, plan_about, plan_fill, plan_row, after_plan}
 use Rattle.book.specs.declared.Plan.{Plan}
-use Rattle.book.specs.declared.Plan.TheVariants.{No, New, NewRow}
-use Rattle.book.proofs.There.{free, RowThere, row_free}
+use Rattle.book.specs.declared.Plan.TheVariants.{New, NewRow}
+use Rattle.book.proofs.There.{There, free, RowThere, row_free}
 
 module _ (s : List ℕ) (r : Record) where
   refuses : (x : Refusal) → refusal_of (limit_of (length s)) (table_in s) (line r) ≡ number_of x → eqb (number_of x) 0 ≡ false → field_of x ≡ 0
-      → Plans s r (No x)
+      → Plans s r (Err x)
   refuses x e z f = record { said = rw (e, z, f); out = rw (e, z); room = tt }
 
   abbrev orders : List Order
@@ -51,19 +51,11 @@ module _ (s : List ℕ) (r : Record) where
   abbrev quotes : List QuoteRow
   quotes = (table_in s).quotes
 
-  grants : (p : Plan) (q : Bool) → to_quote r (find (subject r) orders) ≡ q → refusal_of (limit_of (length s)) (table_in s) (line r) ≡ 0 → answer_of p ≡ value tt
-      → after_plan p r s ≡ cond q (fill_bytes r.event r s) (event_bytes r.event r s) → RoomFor p s → Plans s r p
-  grants p q d e a b c = record { said = rw e a; out = rw (e, d) b; room = c }
+  grants : (p : Plan) (q : Bool) → to_quote r (find (subject r) orders) ≡ q → refusal_of (limit_of (length s)) (table_in s) (line r) ≡ 0
+      → after_plan p r s ≡ cond q (fill_bytes r.event r s) (event_bytes r.event r s) → RoomFor p s → Plans s r (Ok p)
+  grants p q d e b c = record { said = rw e; out = rw (e, d) b; room = c }
 
   -- ---- what the plan of an event does
-
-  plan_answer : (e : Event) (i : ℕ) (f : Figures) → answer_of (plan_by e i f r) ≡ value tt
-  plan_answer Accepted i f = refl
-  plan_answer (Executed t) i f = refl
-  plan_answer Cancelled i f = refl
-  plan_answer (Broken t) i f = refl
-  plan_answer Replaced i f = refl
-  plan_answer Repriced i f = refl
 
   plan_room : (e : Event) (i : ℕ) (f : Figures) → SlotInside i s → (is_maker e && leb (limit_of (length s)) (length (table_in s).orders)) ≡ false
       → RoomFor (plan_by e i f r) s
@@ -88,15 +80,11 @@ module _ (s : List ℕ) (r : Record) where
 
   -- ---- the conditions, one after another
 
-  -- 02, 1: a line about an order belongs to no quote row
-  of_order : {o : Order} → find (subject r) orders ≡ found o → to_quote r (find (subject r) orders) ≡ false
-  of_order f = rw (f, and-false)
-
-  pub day_over : (table_in s).over ≡ true → Plans s r (No DayOver)
+  pub day_over : (table_in s).over ≡ true → Plans s r (Err DayOver)
   day_over a = refuses DayOver (rw a) refl refl
 
   module _ (a : (table_in s).over ≡ false) where
-    pub known_key : (is_maker r.event && is_found (find (key_of r) orders)) ≡ true → Plans s r (No KnownKey)
+    pub known_key : (is_maker r.event && is_found (find (key_of r) orders)) ≡ true → Plans s r (Err KnownKey)
     known_key b = refuses KnownKey (rw (a, b)) refl refl
 
     module _ (b : (is_maker r.event && is_found (find (key_of r) orders)) ≡ false) where
@@ -104,11 +92,11 @@ module _ (s : List ℕ) (r : Record) where
         unfilled : to_quote r (find (subject r) orders) ≡ false
         unfilled = rw (new_unfilled r.event n)
 
-        pub full_of_new : leb (limit_of (length s)) (length orders) ≡ true → Plans s r (No Full)
+        pub full_of_new : leb (limit_of (length s)) (length orders) ≡ true → Plans s r (Err Full)
         full_of_new f = refuses Full (rw (unfilled, a, b, n, f)) refl refl
 
-        pub new : leb (limit_of (length s)) (length orders) ≡ false → Plans s r New
-        new f = grants New false unfilled (rw (unfilled, a, b, n, f)) refl (is_new_lem r.event n) (free s f)
+        pub new : leb (limit_of (length s)) (length orders) ≡ false → Plans s r (Ok New)
+        new f = grants New false unfilled (rw (unfilled, a, b, n, f)) (is_new_lem r.event n) (free s f)
           where
             is_new_lem : (e : Event) → is_new e ≡ true → appended (new_order r r.contracts 0) s ≡ event_bytes e r s
             is_new_lem Accepted n = refl
@@ -118,77 +106,93 @@ module _ (s : List ℕ) (r : Record) where
             is_new_lem Replaced n = absurd (false≢true n)
             is_new_lem Repriced n = absurd (false≢true n)
 
-      module _ (n : is_new r.event ≡ false) where
-        -- the order that the line speaks of stands at place i
-        module _ (i : ℕ) (o : Order) (f : find (subject r) orders ≡ found o) (at : place (subject r) orders ≡ i + 1) (e : o ≡ order_in (slot s i)) (h : SlotInside i s) where
-          none : to_quote r (find (subject r) orders) ≡ false
-          none = of_order f
+  -- of a line that is no A
+  module _ (old : Older s r) where
+    a : (table_in s).over ≡ false
+    a = old.not_over
 
-          pub about : (full : Bool) → full ≡ leb (limit_of (length s)) (length orders) → Plans s r (plan_about i o r full)
-          about full m = go (differs r (found o)) (not_open r (found o)) (not_executed r (found o)) (is_maker r.event && full) refl refl refl refl
+    b : (is_maker r.event && is_found (find (key_of r) orders)) ≡ false
+    b = old.not_known
+
+    n : is_new r.event ≡ false
+    n = old.not_new
+
+    -- the order that the line speaks of stands at place i
+    module _ (i : ℕ) (here : There s (subject r) i) where
+      abbrev o : Order
+      o = order_in (slot s i)
+
+      f : find (subject r) orders ≡ found o
+      f = here.is
+
+      -- 02, 1: a line about an order belongs to no quote row
+      none : to_quote r (find (subject r) orders) ≡ false
+      none = rw (f, and-false)
+
+      pub about : (full : Bool) → full ≡ leb (limit_of (length s)) (length orders) → Plans s r (plan_about i o r full)
+      about full m = go (differs r (found o)) (not_open r (found o)) (not_executed r (found o)) (is_maker r.event && full) refl refl refl refl
+        where
+          chain : (d p x y : Bool) → Result Plan Refusal
+          chain d p x y = cond d (Err OtherSeries) (cond p (Err NotOpen) (cond x (Err NotExecuted) (cond y (Err Full) (Ok (plan_by r.event i o.figures r)))))
+
+          go : (d p x y : Bool) → differs r (found o) ≡ d → not_open r (found o) ≡ p → not_executed r (found o) ≡ x
+              → (is_maker r.event && full) ≡ y → Plans s r (chain d p x y)
+          go true p x y q t u v = refuses OtherSeries (rw (none, a, b, n, f, q)) refl refl
+          go false true x y q t u v = refuses NotOpen (rw (none, a, b, n, f, q, t)) refl refl
+          go false false true y q t u v = refuses NotExecuted (rw (none, a, b, n, f, q, t, u)) refl refl
+          go false false false true q t u v = refuses Full (rw (none, a, b, ← m, v, n, f, q, t, u)) refl refl
+          go false false false false q t u v =
+              grants (plan_by r.event i o.figures r) false none (rw (none, a, b, ← m, v, n, f, q, t, u))
+              (plan_bytes r.event i here.at) (plan_room r.event i o.figures here.inside (rw (← m) v))
+
+    -- 02, 1: no order has the key
+    module _ (f : find (subject r) orders ≡ nobody) where
+      pub unknown_key : (is_fill r.event && names_quote r.token) ≡ false → Plans s r (Err UnknownKey)
+      unknown_key x =
+          let none : to_quote r (find (subject r) orders) ≡ false = rw (f, and-true) x in
+          refuses UnknownKey (rw (none, a, b, n, f)) refl refl
+
+      module _ (x : (is_fill r.event && names_quote r.token) ≡ true) (good : sound s ≡ true) where
+        quoted : to_quote r (find (subject r) orders) ≡ true
+        quoted = rw (f, and-true) x
+
+        unmade : is_maker r.event ≡ false
+        unmade = fill_unmade r.event (both (is_fill r.event) (names_quote r.token) x).0
+
+        abbrev count : ℕ
+        count = length quotes
+
+        pub by_first : find_row (quote_of r) quotes ≡ unseen → Plans s r (plan_row count 0 unseen r)
+        by_first w = go (is_execution r.event) (leb most_rows count) refl refl
+          where
+            go : (e l : Bool) → is_execution r.event ≡ e → leb most_rows count ≡ l → Plans s r (cond e (cond l (Err RowFull) (Ok NewRow)) (Err UnknownKey))
+            go false l e h = refuses UnknownKey (rw (quoted, a, b, unmade, n, f, w, e)) refl refl
+            go true true e h = refuses RowFull (rw (quoted, a, b, unmade, n, f, w, e, h)) refl refl
+            go true false e h = grants NewRow true quoted (rw (quoted, a, b, unmade, n, f, w, e, h)) (rw (e, w)) (row_free s good h)
+
+        -- the row of its quote stands at place i
+        module _ (i : ℕ) (t : RowThere s (quote_of r) i) where
+          abbrev w : QuoteRow
+          w = row_in (row_of s i)
+
+          row_at : (g : QuoteRow → QuoteRow) {u : List ℕ} → u ≡ row_changed_at i g s → u ≡ row_changed (quote_of r) g s
+          row_at g e = let j : i ≡ row_place (quote_of r) quotes - 1 = omega (arith, t.at) in e ∙ ap (λ k. row_changed_at k g s) j
+
+          fill_room : (e : Bool) → RoomFor (plan_fill e i w r.contracts) s
+          fill_room true = t.inside
+          fill_room false = t.inside
+
+          fill_bytes_lem : (e : Bool) → is_execution r.event ≡ e → after_plan (plan_fill e i w r.contracts) r s ≡ fill_bytes r.event r s
+          fill_bytes_lem true e = rw (e, t.is) (row_at (λ v. row_executed_by v r.contracts) refl)
+          fill_bytes_lem false e = rw e (row_at (λ v. row_broken_by v r.contracts) refl)
+
+          pub by_row : Plans s r (plan_row count i (seen w) r)
+          by_row = go (row_not_executed r count (seen w)) (row_full r count (seen w)) refl refl
             where
-              chain : (d p x y : Bool) → Plan
-              chain d p x y = cond d (No OtherSeries) (cond p (No NotOpen) (cond x (No NotExecuted) (cond y (No Full) (plan_by r.event i o.figures r))))
-
-              go : (d p x y : Bool) → differs r (found o) ≡ d → not_open r (found o) ≡ p → not_executed r (found o) ≡ x
-                  → (is_maker r.event && full) ≡ y → Plans s r (chain d p x y)
-              go true p x y q t u v = refuses OtherSeries (rw (none, a, b, n, f, q)) refl refl
-              go false true x y q t u v = refuses NotOpen (rw (none, a, b, n, f, q, t)) refl refl
-              go false false true y q t u v = refuses NotExecuted (rw (none, a, b, n, f, q, t, u)) refl refl
-              go false false false true q t u v = refuses Full (rw (none, a, b, ← m, v, n, f, q, t, u)) refl refl
-              go false false false false q t u v =
-                  grants (plan_by r.event i o.figures r) false none (rw (none, a, b, ← m, v, n, f, q, t, u)) (plan_answer r.event i o.figures)
-                  (rw e (plan_bytes r.event i at)) (plan_room r.event i o.figures h (rw (← m) v))
-
-        -- 02, 1: no order has the key
-        module _ (f : find (subject r) orders ≡ nobody) where
-          pub unknown_key : (is_fill r.event && names_quote r.token) ≡ false → Plans s r (No UnknownKey)
-          unknown_key x =
-              let none : to_quote r (find (subject r) orders) ≡ false = rw (f, and-true) x in
-              refuses UnknownKey (rw (none, a, b, n, f)) refl refl
-
-          module _ (x : (is_fill r.event && names_quote r.token) ≡ true) (good : sound s ≡ true) where
-            quoted : to_quote r (find (subject r) orders) ≡ true
-            quoted = rw (f, and-true) x
-
-            unmade : is_maker r.event ≡ false
-            unmade = fill_unmade r.event (both (is_fill r.event) (names_quote r.token) x).0
-
-            abbrev count : ℕ
-            count = length quotes
-
-            pub by_first : find_row (quote_of r) quotes ≡ unseen → Plans s r (plan_row count 0 unseen r)
-            by_first w = go (is_execution r.event) (leb most_rows count) refl refl
-              where
-                go : (e l : Bool) → is_execution r.event ≡ e → leb most_rows count ≡ l → Plans s r (cond e (cond l (No RowFull) NewRow) (No UnknownKey))
-                go false l e h = refuses UnknownKey (rw (quoted, a, b, unmade, n, f, w, e)) refl refl
-                go true true e h = refuses RowFull (rw (quoted, a, b, unmade, n, f, w, e, h)) refl refl
-                go true false e h = grants NewRow true quoted (rw (quoted, a, b, unmade, n, f, w, e, h)) refl (rw (e, w)) (row_free s good h)
-
-            -- the row of its quote is w, at place i
-            module _ (i : ℕ) (w : QuoteRow) (t : RowThere s (quote_of r) i w) (at : row_place (quote_of r) quotes ≡ i + 1) (is : w ≡ row_in (row_of s i)) where
-              row_at : (g : QuoteRow → QuoteRow) {u : List ℕ} → u ≡ row_changed_at i g s → u ≡ row_changed (quote_of r) g s
-              row_at g e = let j : i ≡ row_place (quote_of r) quotes - 1 = omega arith in e ∙ ap (λ k. row_changed_at k g s) j
-
-              fill_answer : (e : Bool) → answer_of (plan_fill e i w r.contracts) ≡ value tt
-              fill_answer true = refl
-              fill_answer false = refl
-
-              fill_room : (e : Bool) → RoomFor (plan_fill e i w r.contracts) s
-              fill_room true = t.inside
-              fill_room false = t.inside
-
-              fill_bytes_lem : (e : Bool) → is_execution r.event ≡ e → after_plan (plan_fill e i w r.contracts) r s ≡ fill_bytes r.event r s
-              fill_bytes_lem true e = rw (e, t.is) (row_at (λ v. row_executed_by v r.contracts) (ap (λ v. after_plan (plan_fill true i v r.contracts) r s) is))
-              fill_bytes_lem false e = rw e (row_at (λ v. row_broken_by v r.contracts) (ap (λ v. after_plan (plan_fill false i v r.contracts) r s) is))
-
-              pub by_row : Plans s r (plan_row count i (seen w) r)
-              by_row = go (row_not_executed r count (seen w)) (row_full r count (seen w)) refl refl
-                where
-                  go : (u v : Bool) → row_not_executed r count (seen w) ≡ u → row_full r count (seen w) ≡ v
-                      → Plans s r (cond u (No NotExecuted) (cond v (No RowFull) (plan_fill (is_execution r.event) i w r.contracts)))
-                  go true v p q = refuses NotExecuted (rw (quoted, a, b, unmade, n, f, t.is, or-true, p)) refl refl
-                  go false true p q = refuses RowFull (rw (quoted, a, b, unmade, n, f, t.is, or-true, p, q)) refl refl
-                  go false false p q =
-                      grants (plan_fill (is_execution r.event) i w r.contracts) true quoted (rw (quoted, a, b, unmade, n, f, t.is, or-true, p, q))
-                      (fill_answer (is_execution r.event)) (fill_bytes_lem (is_execution r.event) refl) (fill_room (is_execution r.event))
+              go : (u v : Bool) → row_not_executed r count (seen w) ≡ u → row_full r count (seen w) ≡ v
+                  → Plans s r (cond u (Err NotExecuted) (cond v (Err RowFull) (Ok (plan_fill (is_execution r.event) i w r.contracts))))
+              go true v p q = refuses NotExecuted (rw (quoted, a, b, unmade, n, f, t.is, or-true, p)) refl refl
+              go false true p q = refuses RowFull (rw (quoted, a, b, unmade, n, f, t.is, or-true, p, q)) refl refl
+              go false false p q =
+                  grants (plan_fill (is_execution r.event) i w r.contracts) true quoted (rw (quoted, a, b, unmade, n, f, t.is, or-true, p, q))
+                  (fill_bytes_lem (is_execution r.event) refl) (fill_room (is_execution r.event))

@@ -6,7 +6,9 @@ use mathlib.Core.Bool.{Bool, true, false, cond}
 use mathlib.Core.List.{List, [], ◌∷◌}
 use lib.Dec.{eqb}
 use lib.ListN.{length}
-use Rattle.refusal.specs.Answer.{Answer, value, refused}
+use Rattle.std.specs.Prelude.{Result, Ok}
+use Rattle.refusal.specs.Answer.{Answer, value, refused, answer_of}
+use Rattle.refusal.specs.declared.Refusal.{Refusal}
 use Rattle.layout.proofs.Forms.{no_value}
 use Rattle.layout.specs.Line.{Said, read, line_of}
 use Rattle.layout.specs.declared.Event.TheVariants.{Accepted, Executed}
@@ -19,10 +21,7 @@ use Rattle.table.specs.Tables.{least_limit, limit_of, table_in, sound}
 use Rattle.table.proofs.Answers.{no_limit}
 use Rattle.table.proofs.Making.{blank, blank_limit, blank_meant}
 use Rattle.book.specs.Bytes.{read_bytes, book_bytes, book_answer, bytes_after}
-use Rattle.book.specs.Promises.{booking_of}
 use Rattle.book.specs.Wrong.{Keeps, RefusesAll, ChangesNothing, NodsAtRest, ChangesRefusing, BooksDamaged, BooksOtherLength}
-use Rattle.book.specs.declared.Booking.{Booking}
-use Rattle.book.specs.declared.Booking.TheVariants.{Booked}
 use Rattle.book.proofs.Determined.{book_determined}
 use Rattle.book.proofs.Reached.{Reached, reached_answer, reached_bytes}
 
@@ -64,17 +63,17 @@ refusal_stays s p {n} {f} = go (sound s)
 
 -- ---- what keeps the promise is none of these
 
-module _ {book : List ℕ → List ℕ → Booking × List ℕ} (keeps : Keeps book) where
+module _ {book : List ℕ → List ℕ → Result (Unit {0}) Refusal × List ℕ} (keeps : Keeps book) where
   -- a piece that the machine of the day accepts is booked
   booked : (ps : List (List ℕ)) (p : List ℕ) → answer_to (book_day limit) ps p ≡ value tt
-      → ((book (after ps) p).0 ≡ Booked) × ((book (after ps) p).1 ≡ after (p ∷ ps))
+      → ((book (after ps) p).0 ≡ Ok tt) × ((book (after ps) p).1 ≡ after (p ∷ ps))
   booked ps p e =
       let said = reached_answer (reached ps) p ∙ e in
-      book_determined (after ps) p _ Booked _ (after (p ∷ ps)) (keeps (after ps) p) (record { said = sym said; out = refl })
+      book_determined (after ps) p _ (Ok tt) _ (after (p ∷ ps)) (keeps (after ps) p) (record { said = sym said; out = refl })
 
   -- and the orders stay if the table does
   nodded : (ps : List (List ℕ)) (p : List ℕ) → answer_to (book_day limit) ps p ≡ value tt
-      → ((book (after ps) p).0 ≡ Booked → (book (after ps) p).1 ≡ after ps)
+      → ((book (after ps) p).0 ≡ Ok tt → (book (after ps) p).1 ≡ after ps)
       → (table_after (book_day limit) (p ∷ ps)).orders ≡ (table_after (book_day limit) ps).orders
   nodded ps p e same =
       let (b, t) = booked ps p e in
@@ -85,7 +84,7 @@ module _ {book : List ℕ → List ℕ → Booking × List ℕ} (keeps : Keeps b
   unfolding read line_of
   refuses_all refuses =
       let (x, e) = refuses (after []) order in
-      no_value (ap booking_of (sym e ∙ (booked [] order refl).0))
+      no_value (ap answer_of (sym e ∙ (booked [] order refl).0))
 
   pub changes_nothing : ChangesNothing book → ⊥
   unfolding read line_of
@@ -99,11 +98,11 @@ module _ {book : List ℕ → List ℕ → Booking × List ℕ} (keeps : Keeps b
 
   pub changes_refusing : ChangesRefusing book → ⊥
   changes_refusing (s, p, x, e, other) =
-      other ((keeps s p).out ∙ refusal_stays s p (sym (ap booking_of e) ∙ (keeps s p).said))
+      other ((keeps s p).out ∙ refusal_stays s p (sym (ap answer_of e) ∙ (keeps s p).said))
 
   pub books_damaged : BooksDamaged book → ⊥
   unfolding book_answer
-  books_damaged (s, p, damaged, e) = no_value (sym (rw damaged at (sym (ap booking_of e) ∙ (keeps s p).said)))
+  books_damaged (s, p, damaged, e) = no_value (sym (rw damaged at (sym (ap answer_of e) ∙ (keeps s p).said)))
 
   pub books_other_length : BooksOtherLength book → ⊥
   books_other_length (s, p, other, e) = books_damaged (s, p, sym (no_limit s other), e)

@@ -3,7 +3,7 @@
 use Prim.Native.Nat.{ℕ, ◌+◌, ◌≤◌, ◌<◌}
 use native.Mathlib.Nat.{zero-add}
 use native.Mathlib.Omega.{arith}
-use mathlib.Core.Path.{◌≡◌, sym, ap, ◌∙◌}
+use mathlib.Core.Path.{◌≡◌, ap, ◌∙◌}
 use mathlib.Core.Bool.{true, false}
 use mathlib.Core.List.{List}
 use borrow.Author.Tests.{leb-false}
@@ -11,11 +11,9 @@ use lib.Dec.{leb}
 use lib.ListN.{length, get_or}
 use Rattle.order.specs.Figure.{Sound}
 use Rattle.order.specs.declared.Key.{Key}
-use Rattle.order.specs.declared.Order.{Order}
 use Rattle.quote.specs.Quotes.{most_rows, most_executed}
 use Rattle.quote.specs.Rows.{row_place}
 use Rattle.quote.specs.declared.Quote.{Quote}
-use Rattle.quote.specs.declared.QuoteRow.{QuoteRow}
 use Rattle.quote.proofs.Named.{row_number}
 use Rattle.day.specs.Machine.{found, find, place, seen, find_row}
 use Rattle.day.proofs.QuoteRows.{row_parts}
@@ -34,21 +32,23 @@ use Rattle.table.proofs.RowLookups.{at_seen}
 use Rattle.slot.proofs.Lookups.{at_found}
 use Rattle.table.proofs.Sound.{sound_apart}
 
--- o, at place i, is the order that a lookup of k finds
-pub record There (s : List ℕ) (k : Key) (i : ℕ) (o : Order) : Type 0 where
+-- the order that a lookup of k finds stands at place i
+pub record There (s : List ℕ) (k : Key) (i : ℕ) : Type 0 where
+  pub at : place k (table_in s).orders ≡ i + 1
   pub inside : SlotInside i s
-  pub is : find k (table_in s).orders ≡ found o
-  pub sums : Sound o.figures
+  pub is : find k (table_in s).orders ≡ found (order_in (slot s i))
+  pub sums : Sound (order_in (slot s i)).figures
 
-pub there : (s : List ℕ) (k : Key) (i : ℕ) (o : Order) → sound s ≡ true → place k (table_in s).orders ≡ i + 1 → o ≡ order_in (slot s i)
-    → There s k i o
-there s k i o e p q =
+pub there : (s : List ℕ) (k : Key) (i : ℕ) → sound s ≡ true → place k (table_in s).orders ≡ i + 1 → There s k i
+there s k i e p =
     let w = sound_apart s e in
+    let o = order_in (slot s i) in
     let h = at_found k (table_in s).orders i o p in
     let n = length_orders 0 (count_in s) s in
     let same : get_or (table_in s).orders i o ≡ o =
-    order_no 0 (count_in s) s i o (omega (arith, h.0)) ∙ ap (λ j. order_in (slot s j)) (zero-add i) ∙ sym q in
+    order_no 0 (count_in s) s i o (omega (arith, h.0)) ∙ ap (λ j. order_in (slot s j)) (zero-add i) in
     record {
+      at = p;
       inside = slot_inside (length s) i (omega (arith, h.0, w.bytes.few));
       is = h.1 ∙ ap found same;
       sums = rw same at (sums (limit_of (length s)) (table_in s) w.orders o i h.0);
@@ -60,24 +60,26 @@ free s e = omega (arith, length_orders 0 (count_in s) s, leb-false (limit_of (le
 
 -- ---- 02, 1: quote rows
 
--- w, at place i, is the row of q
-pub record RowThere (s : List ℕ) (q : Quote) (i : ℕ) (w : QuoteRow) : Type 0 where
+-- the row of q stands at place i
+pub record RowThere (s : List ℕ) (q : Quote) (i : ℕ) : Type 0 where
+  pub at : row_place q (table_in s).quotes ≡ i + 1
   pub inside : RowInside (base_in s) i s
-  pub is : find_row q (table_in s).quotes ≡ seen w
-  pub most : w.executed ≤ most_executed
-  pub sums : w.broken ≤ w.executed
+  pub is : find_row q (table_in s).quotes ≡ seen (row_in (row_of s i))
+  pub most : (row_in (row_of s i)).executed ≤ most_executed
+  pub sums : (row_in (row_of s i)).broken ≤ (row_in (row_of s i)).executed
 
-pub row_there : (s : List ℕ) (q : Quote) (i : ℕ) (w : QuoteRow) → sound s ≡ true → row_place q (table_in s).quotes ≡ i + 1 → w ≡ row_in (row_of s i)
-    → RowThere s q i w
-row_there s q i w e p same =
+pub row_there : (s : List ℕ) (q : Quote) (i : ℕ) → sound s ≡ true → row_place q (table_in s).quotes ≡ i + 1 → RowThere s q i
+row_there s q i e p =
     let whole = sound_apart s e in
+    let w = row_in (row_of s i) in
     let ws = (table_in s).quotes in
     let (inside, is) = at_seen q ws i w p in
     let n = length_rows (base_in s) (row_count_in s) s in
-    let theirs : get_or ws i w ≡ w = row_no (base_in s) (row_count_in s) s i w (omega arith) ∙ sym same in
+    let theirs : get_or ws i w ≡ w = row_no (base_in s) (row_count_in s) s i w (omega arith) in
     let sound = row_sound ws i w (apart_rows (limit_of (length s)) (table_in s) whole.orders).sound inside in
     let (lawful, some, most, sums) = row_parts w (rw theirs at sound) in
     record {
+      at = p;
       inside = row_inside s i whole.bytes.meant (omega (arith, whole.bytes.few_rows));
       is = is ∙ ap seen theirs;
       most = most;

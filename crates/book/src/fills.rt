@@ -1,80 +1,72 @@
 // The plan for a line whose key is in no order (02, 1): an E or C of a quote is about its row, any other line is refused by 8. No byte is changed here.
-ghost use Rattle.std.specs.Prelude.{◌≤◌, ◌≡◌, true, false, ◌&&◌};
+ghost use Rattle.std.specs.Prelude.{◌≤◌, ◌≡◌, true, ◌&&◌};
 ghost use Rattle.layout.specs.Demand2.{LawfulRecord};
-ghost use Rattle.order.specs.Names.{key_of};
 ghost use Rattle.quote.specs.Quotes.{most_executed, names_quote};
-ghost use Rattle.day.specs.History.{is_maker, is_new};
-ghost use Rattle.day.specs.Machine.{find, is_found, nobody, none, seen};
+ghost use Rattle.day.specs.Machine.{find, nobody, none, seen};
 ghost use Rattle.day.specs.Quotes.{is_fill};
 ghost use Rattle.day.specs.Refusals.{subject};
 ghost use Rattle.table.specs.Tables.{sound, table_in};
-ghost use Rattle.book.specs.Plans.{Plans, plan_row};
+ghost use Rattle.book.specs.Plans.{Older, Plans, plan_row};
 
 use crate::{Plan, conditions};
 use layout::Record;
 use quote::{MOST_EXECUTED, QuoteRow};
 use refusal::Refusal;
-use slot::Place;
 use table::header;
 
 // Whether it is an E or C whose token names a quote.
 fn is_of_quote(r: Record) -> bool
     ensures { result ≡ (is_fill r.event && names_quote r.token) }
 {
-    let event = r.event;
-    let token = r.token;
-    conditions::is_fill(event) & quote::names_quote(&token)
+    conditions::is_fill(r.event) & quote::names_quote(&r.token)
 }
 
-pub fn plan_fill(t: &[u8], r: Record) -> Plan
+#[tactic(auto, using(table::proofs::Sound::header_there))]
+pub fn plan_fill(t: &[u8], r: Record) -> Result<Plan, Refusal>
     requires t_value { sound t.now ≡ true }
     requires lawful_record { LawfulRecord r }
-    requires t_value_2 { (table_in t.now).over ≡ false }
-    requires t_value_3 { (is_maker r.event && is_found (find (key_of r) (table_in t.now).orders)) ≡ false }
-    requires event_value { is_new r.event ≡ false }
-    requires t_value_4 { find (subject r) (table_in t.now).orders ≡ nobody }
+    requires older { Older t.now r }
+    requires absent { find (subject r) (table_in t.now).orders ≡ nobody }
     ensures { Plans t.now r result }
 {
     if !is_of_quote(r) {
-        return Plan::No(Refusal::UnknownKey);
+        return Err(Refusal::UnknownKey);
     }
-    let Place::At(i) = table::find_row(t, quote::quote_of(r)) else {
+    let Some(i) = table::find_row(t, quote::quote_of(r)) else {
         return plan_first(header::row_count(t), r);
     };
     plan_row(i, table::row_at(t, i), r)
 }
 
 // Of a line whose quote has no row yet: the first E makes it, where there are not all already.
-fn plan_first(n: usize, r: Record) -> Plan
+fn plan_first(n: usize, r: Record) -> Result<Plan, Refusal>
     ensures { result ≡ plan_row n 0 none r }
 {
-    let event = r.event;
-    if !conditions::is_execution(event) {
-        return Plan::No(Refusal::UnknownKey);
+    if !conditions::is_execution(r.event) {
+        return Err(Refusal::UnknownKey);
     }
     if quote::most_rows() <= n {
-        return Plan::No(Refusal::RowFull);
+        return Err(Refusal::RowFull);
     }
-    Plan::NewRow
+    Ok(Plan::NewRow)
 }
 
 // Of a line about the quote row w at place i. What is left of the greatest executed is asked, so that there is no sum to grow.
-fn plan_row(i: usize, w: QuoteRow, r: Record) -> Plan
+fn plan_row(i: usize, w: QuoteRow, r: Record) -> Result<Plan, Refusal>
     requires executed_le_most_executed { w.executed ≤ most_executed }
     requires broken_le_executed { w.broken ≤ w.executed }
     requires event_value { is_fill r.event ≡ true }
     ensures { result ≡ plan_row 0 i (seen w) r }
 {
     let n = r.contracts;
-    let event = r.event;
-    if conditions::is_execution(event) {
+    if conditions::is_execution(r.event) {
         if MOST_EXECUTED - w.executed < n {
-            return Plan::No(Refusal::RowFull);
+            return Err(Refusal::RowFull);
         }
-        return Plan::Sums(i, w.executed + n, w.broken);
+        return Ok(Plan::Sums(i, w.executed + n, w.broken));
     }
     if w.executed - w.broken < n {
-        return Plan::No(Refusal::NotExecuted);
+        return Err(Refusal::NotExecuted);
     }
-    Plan::Sums(i, w.executed, w.broken + n)
+    Ok(Plan::Sums(i, w.executed, w.broken + n))
 }

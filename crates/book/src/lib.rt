@@ -7,19 +7,11 @@ mod planning;
 mod store;
 
 use order::Figures;
-use refusal::Refusal;
 pub use store::{book, book_sound};
 
-#[derive(Clone, Copy)]
-pub enum Booking {
-    Booked,
-    Refused(Refusal),
-}
-
-// What a line does to a table. It holds no array: what the record says is taken from the record.
+// What a line does to a table. Each line makes one, so it is small: what the record or a quote row says is taken from there.
 #[derive(Clone, Copy)]
 pub(crate) enum Plan {
-    No(Refusal),
     // One order more, of a line that has no elder.
     New,
     // The figures of the order at a place.

@@ -9,24 +9,24 @@ ghost use Rattle.slot.specs.Places.{SlotInside, place_no};
 ghost use Rattle.quote_slot.specs.QuoteSlots.{RowInside};
 ghost use Rattle.table.specs.Tables.{base_in, sound, table_in};
 ghost use Rattle.lookup.specs.Beside.{Beside};
-ghost use Rattle.book.specs.Plans.{BooksSaid, Carried, RoomFor, refigured, resummed};
+ghost use Rattle.book.specs.Plans.{BooksSaid, RoomFor, after_plan, refigured, resummed};
 ghost use Rattle.book.specs.Promises.{Books};
 
-use crate::{Booking, Plan, planning};
+use crate::Plan;
+use crate::planning::Lent;
 use layout::Record;
-use line::Outcome;
+use line::Said;
 use order::{Figures, Order};
 use quote::QuoteRow;
 use refusal::Refusal;
-use slot::Place;
 use table::{damage, header};
 
 // Any bytes for a table, any piece. On a refusal not one byte is changed.
-pub fn book(t: &mut [u8], piece: &[u8]) -> Booking
+pub fn book(t: &mut [u8], piece: &[u8]) -> Result<(), Refusal>
     ensures { Books t.old piece.now result t.new }
 {
     if !damage::is_sound(t) {
-        return Booking::Refused(Refusal::Damaged);
+        return Err(Refusal::Damaged);
     }
     // An index would cost more than the one or two scans of a single piece.
     let mut heads = [0u16; 0];
@@ -41,7 +41,7 @@ pub fn book_sound(
     nexts: &mut [u16],
     piece: &[u8],
     plain: bool,
-) -> Booking
+) -> Result<(), Refusal>
     requires t_value { sound t.old ≡ true }
     requires beside { Beside t.old heads.old nexts.old }
     requires piece_value { plain ≡ true → printable piece.now ≡ true }
@@ -49,29 +49,33 @@ pub fn book_sound(
     ensures beside_2 { Beside t.new heads.new nexts.new }
 {
     // Looked up before the line is read: the processor then does both at once.
-    let own = planning::own(t, heads, nexts, piece);
-    let reading = line::read_in(piece, plain);
-    let outcome = reading.outcome;
-    match outcome {
-        Outcome::EndOfDay => book_end(t),
-        Outcome::Line => book_line(t, heads, nexts, own, reading.line),
-        Outcome::Refused(x) => Booking::Refused(x),
+    let own = Lent { t, heads, nexts }.own(piece);
+    match line::read_in(piece, plain)? {
+        Said::EndOfDay => book_end(t),
+        Said::Line(r) => book_line(t, heads, nexts, own, r),
     }
 }
 
-fn book_end(t: &mut [u8]) -> Booking
+#[tactic(auto, using(table::proofs::Sound::header_there))]
+fn book_end(t: &mut [u8]) -> Result<(), Refusal>
     requires { sound t.old ≡ true }
     ensures { BooksSaid t.old end_of_day result t.new }
 {
     if header::is_over(t) {
-        return Booking::Refused(Refusal::DayOver);
+        return Err(Refusal::DayOver);
     }
     header::put_over(t);
-    Booking::Booked
+    Ok(())
 }
 
 // The line's own key was looked up already.
-fn book_line(t: &mut [u8], heads: &mut [u16], nexts: &mut [u16], own: Place, r: Record) -> Booking
+fn book_line(
+    t: &mut [u8],
+    heads: &mut [u16],
+    nexts: &mut [u16],
+    own: Option<usize>,
+    r: Record,
+) -> Result<(), Refusal>
     requires t_value { sound t.old ≡ true }
     requires beside { Beside t.old heads.old nexts.old }
     requires own_value { place_no own ≡ place (key_of r) (table_in t.old).orders }
@@ -79,44 +83,29 @@ fn book_line(t: &mut [u8], heads: &mut [u16], nexts: &mut [u16], own: Place, r: 
     ensures books_said { BooksSaid t.old (line_line r) result t.new }
     ensures beside_2 { Beside t.new heads.new nexts.new }
 {
-    let plan = planning::plan(t, heads, nexts, own, r);
-    carry_out(t, heads, nexts, plan, r)
+    let plan = Lent { t, heads, nexts }.plan(own, r)?;
+    carry_out(t, heads, nexts, plan, r);
+    Ok(())
 }
 
-fn carry_out(t: &mut [u8], heads: &mut [u16], nexts: &mut [u16], plan: Plan, r: Record) -> Booking
+#[tactic(auto, using(crate::proofs::Booked::kept_beside))]
+fn carry_out(t: &mut [u8], heads: &mut [u16], nexts: &mut [u16], plan: Plan, r: Record)
     requires room_for { RoomFor plan t.old }
     requires beside { Beside t.old heads.old nexts.old }
     requires t_value { sound t.old ≡ true }
-    ensures carried { Carried t.old plan r result t.new }
+    ensures t_after { t.new ≡ after_plan plan r t.old }
     ensures beside_2 { Beside t.new heads.new nexts.new }
 {
     match plan {
-        Plan::No(x) => Booking::Refused(x),
-        Plan::New => {
-            lookup::append(t, heads, nexts, new_order(r, r.contracts, 0));
-            Booking::Booked
-        }
-        Plan::Change(i, f) => {
-            refigure(t, i, f);
-            Booking::Booked
-        }
-        Plan::Price(i, p) => {
-            reprice(t, i, p);
-            Booking::Booked
-        }
+        Plan::New => lookup::append(t, heads, nexts, new_order(r, r.contracts, 0)),
+        Plan::Change(i, f) => refigure(t, i, f),
+        Plan::Price(i, p) => reprice(t, i, p),
         Plan::Replace(i, f) => {
             refigure(t, i, f);
             lookup::append(t, heads, nexts, new_order(r, r.contracts, i as u64 + 1));
-            Booking::Booked
         }
-        Plan::NewRow => {
-            table::append_row(t, QuoteRow::first(quote::quote_of(r), r.contracts));
-            Booking::Booked
-        }
-        Plan::Sums(i, executed, broken) => {
-            resum(t, i, executed, broken);
-            Booking::Booked
-        }
+        Plan::NewRow => table::append_row(t, QuoteRow::first(quote::quote_of(r), r.contracts)),
+        Plan::Sums(i, executed, broken) => resum(t, i, executed, broken),
     }
 }
 
@@ -148,20 +137,15 @@ fn reprice(t: &mut [u8], i: usize, p: u64)
     slot::store_price(t, i, p);
 }
 
-// The quote is read from the row, since a plan holds no array.
+// The quote stays as the row has it.
 fn resum(t: &mut [u8], i: usize, executed: u64, broken: u64)
     requires { RowInside (base_in t.old) i t.old }
     ensures { t.new ≡ resummed i executed broken t.old }
 {
-    let old = table::row_at(t, i);
-    let quote = old.quote;
-    table::store_row(
-        t,
-        i,
-        QuoteRow {
-            quote,
-            executed,
-            broken,
-        },
-    );
+    let row = QuoteRow {
+        executed,
+        broken,
+        ..table::row_at(t, i)
+    };
+    table::store_row(t, i, row);
 }

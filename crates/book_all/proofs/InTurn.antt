@@ -5,13 +5,13 @@ use mathlib.Core.Bool.{Bool, true, false, cond}
 use mathlib.Core.List.{List, ◌∷◌}
 use lib.ListN.{length}
 use lib.Seq.{sets}
+use Rattle.std.specs.Prelude.{Ok}
 use Rattle.refusal.specs.Answer.{Answer, value, refused, code_of}
 use Rattle.layout.proofs.Forms.{no_value}
 use Rattle.table.specs.Tables.{sound}
 use Rattle.book_all.specs.InTurn.{answers_to, table_after, first_pieces, Calls}
 use Rattle.book_all.specs.InTurn.Calls.{none, next}
 use Rattle.book_all.specs.Promises.{used_of, table_from, answers_from, BooksAll}
-use Rattle.book_all.specs.declared.BookedAll.TheVariants.{Done}
 use Rattle.book_all.specs.declared.Used.{Used}
 use Rattle.book_all.proofs.Given.{answers_long}
 
@@ -23,7 +23,7 @@ in_turn (next {ps = ps} b c) =
     (ap₂ (λ (x : ℕ) (xs : List ℕ). x ∷ xs) (ap code_of b.said) (said ∙ ap (λ s. answers_to s ps) b.out), out ∙ ap (λ s. table_after s ps) b.out)
 
 -- with one answer for each of the calls, and the table that they leave
-pub as_in_turn : (table text answers : List ℕ) (u : Used) (after given : List ℕ) → BooksAll table text answers (Done u) after given
+pub as_in_turn : (table text answers : List ℕ) (u : Used) (after given : List ℕ) → BooksAll table text answers (Ok u) after given
     → (said last : List ℕ) → Calls table (first_pieces (length answers) text) said last
     → (u.pieces ≡ length said) × (given ≡ sets answers 0 said) × (after ≡ last)
 as_in_turn table text answers u after given h said last calls = go (sound table) h.said h.out h.told

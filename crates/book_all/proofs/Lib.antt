@@ -1,7 +1,5 @@
 -- What a turn of the loop keeps
 pub mod Turns
--- A damaged table is refused before anything
-pub mod Damaged
 -- The answers that are given, one by one
 pub mod Given
 -- One call says what a call for each piece says

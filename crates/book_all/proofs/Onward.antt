@@ -1,10 +1,9 @@
 -- A text in several calls is the text in one: the next call begins behind the bytes that are used.
 use Prim.Native.Nat.{ℕ, zero, suc, ◌+◌}
-use native.Mathlib.Nat.{zero-add, suc-add}
 use mathlib.Core.Path.{◌≡◌, refl, sym, ap, ◌∙◌}
 use mathlib.Core.List.{List, [], ◌∷◌, ◌++◌}
 use lib.ListN.{length, take, drop}
-use lib.Seq.{drop-drop, length-take-le}
+use lib.Seq.{drop-drop, length-take-le, take-add}
 use Rattle.refusal.specs.Answer.{code_of}
 use Rattle.book.specs.Bytes.{book_answer, book_bytes}
 use Rattle.piece.specs.Pieces.{pieces, piece_length}
@@ -28,15 +27,6 @@ rest (suc n) (b ∷ s) = go (rest n (behind text))
         → pieces (drop (bytes_of (first_pieces (suc n) text)) text) ≡ drop (suc n) (pieces text)
     go e = rw (first_piece b s, long, ← drop-drop) e
 
-first_more : (n m : ℕ) (ps : List (List ℕ)) → take (n + m) ps ≡ take n ps ++ take m (drop n ps)
-first_more zero m ps = rw zero-add
-first_more (suc n) m [] = rw suc-add (none m)
-  where
-    none : (m : ℕ) → [] ≡ take {A = List ℕ} m []
-    none zero = refl
-    none (suc m) = refl
-first_more (suc n) m (p ∷ ps) = rw suc-add (ap (λ (qs : List (List ℕ)). p ∷ qs) (first_more n m ps))
-
 answers_joined : (table : List ℕ) (ps qs : List (List ℕ)) → answers_to table (ps ++ qs) ≡ answers_to table ps ++ answers_to (table_after table ps) qs
 answers_joined table [] qs = refl
 answers_joined table (p ∷ ps) qs = ap (λ (xs : List ℕ). code_of (book_answer table p) ∷ xs) (answers_joined (book_bytes table p) ps qs)
@@ -54,7 +44,7 @@ module _ (table text : List ℕ) (n m : ℕ) where
   second = first_pieces m (drop (bytes_of first) text)
 
   all_of : first_pieces (n + m) text ≡ first ++ second
-  all_of = first_more n m (pieces text) ∙ ap (λ (ps : List (List ℕ)). first ++ take m ps) (sym (rest n text))
+  all_of = take-add n m (pieces text) ∙ ap (λ (ps : List (List ℕ)). first ++ take m ps) (sym (rest n text))
 
   pub onward : (answers_to table (first_pieces (n + m) text) ≡ answers_to table first ++ answers_to (table_after table first) second)
       × (table_after table (first_pieces (n + m) text) ≡ table_after (table_after table first) second)

@@ -1,11 +1,14 @@
 -- No wrong way of specs/Wrong.antt keeps the promise.
-use Prim.Native.Nat.{ℕ, zero, suc, ◌+◌, ◌<◌}
+use Prim.Native.Nat.{ℕ, ◌+◌}
 use native.Mathlib.Omega.{arith}
 use mathlib.Core.Path.{◌≡◌, refl, sym, ap, subst, ◌∙◌}
 use mathlib.Core.Bool.{true}
 use mathlib.Core.List.{List, [], ◌∷◌}
-use lib.ListN.{length, get_or, take, replicate, length-replicate}
-use Rattle.refusal.specs.Answer.{code_of}
+use lib.ListN.{length, get_or, replicate, length-replicate, get_or-replicate}
+use lib.Seq.{take-length}
+use Rattle.std.specs.Prelude.{Result}
+use Rattle.refusal.specs.Answer.{answer_of, code_of}
+use Rattle.refusal.specs.declared.Refusal.{Refusal}
 use Rattle.layout.specs.Line.{read}
 use Rattle.layout.proofs.Forms.{no_value}
 use Rattle.table.specs.Tables.{least_limit, sound}
@@ -15,21 +18,9 @@ use Rattle.book.proofs.Reached.{Reached, reached_answer, reached_bytes}
 use Rattle.run.proofs.Stores.{sets_whole}
 use Rattle.piece.specs.Pieces.{pieces}
 use Rattle.book_all.specs.InTurn.{answers_to, first_pieces}
-use Rattle.book_all.specs.Promises.{booked_all_of}
 use Rattle.book_all.specs.Wrong.{Keeps, LeavesOut, JudgesByFirst, TakesDamaged}
-use Rattle.book_all.specs.declared.BookedAll.{BookedAll}
+use Rattle.book_all.specs.declared.Used.{Used}
 use Rattle.book_all.proofs.Given.{answers_long}
-
--- ---- answers for all pieces
-
-take_all : (ps : List (List ℕ)) → take (length ps) ps ≡ ps
-take_all [] = refl
-take_all (p ∷ ps) = ap (λ (qs : List (List ℕ)). p ∷ qs) (take_all ps)
-
-replicated : (n x i : ℕ) → i < n → get_or (replicate n x) i 0 ≡ x
-replicated zero x i h = absurd (omega arith)
-replicated (suc n) x zero h = refl
-replicated (suc n) x (suc i) h = replicated n x i (omega arith)
 
 -- ---- the witness against judging by the table as it was lent: two ends of day in an empty table
 
@@ -55,12 +46,12 @@ second_end = ap code_of (reached_answer (reached (end ∷ [])) end)
 
 -- ---- what keeps the promise is none of these
 
-module _ {book_all : List ℕ → List ℕ → List ℕ → BookedAll × List ℕ × List ℕ} (keeps : Keeps book_all) where
+module _ {book_all : List ℕ → List ℕ → List ℕ → Result Used Refusal × List ℕ × List ℕ} (keeps : Keeps book_all) where
   -- with room for all, the answers are those to the pieces one after another
   given_all : (table text answers : List ℕ) → sound table ≡ true → length answers ≡ length (pieces text)
       → (book_all table text answers).2 ≡ answers_to table (pieces text)
   given_all table text answers e n =
-      let first : first_pieces (length answers) text ≡ pieces text = rw n (take_all (pieces text)) in
+      let first : first_pieces (length answers) text ≡ pieces text = rw n (take-length (pieces text)) in
       (rw (e, first) at (keeps table text answers).told)
       ∙ sets_whole answers (answers_to table (pieces text)) (answers_long table (pieces text) ∙ sym n)
 
@@ -69,7 +60,7 @@ module _ {book_all : List ℕ → List ℕ → List ℕ → BookedAll × List �
       let right = get_or (answers_to table (pieces text)) i 0 in
       let lent = replicate (length (pieces text)) (right + 1) in
       let all : length lent ≡ length (pieces text) = length-replicate {A = ℕ} (length (pieces text)) (right + 1) in
-      let said : right ≡ right + 1 = ap (λ (xs : List ℕ). get_or xs i 0) (sym (given_all table text lent good all)) ∙ out lent all ∙ replicated (length (pieces text)) (right + 1) i there in
+      let said : right ≡ right + 1 = ap (λ (xs : List ℕ). get_or xs i 0) (sym (given_all table text lent good all)) ∙ out lent all ∙ get_or-replicate (length (pieces text)) i (right + 1) 0 there in
       omega arith
 
   pub judges_by_first : JudgesByFirst book_all → ⊥
@@ -82,4 +73,4 @@ module _ {book_all : List ℕ → List ℕ → List ℕ → BookedAll × List �
 
   pub takes_damaged : TakesDamaged book_all → ⊥
   takes_damaged (table, text, answers, u, damaged, e) =
-      no_value (sym (rw damaged at (sym (ap booked_all_of e) ∙ (keeps table text answers).said)))
+      no_value (sym (rw damaged at (sym (ap answer_of e) ∙ (keeps table text answers).said)))

@@ -1,9 +1,9 @@
 -- Pieces booked into a lent table one after another.
-use Rattle.std.specs.Prelude.{ℕ, ◌+◌, List, [], ◌∷◌, length, take}
-use Rattle.refusal.specs.Answer.{code_of}
+use Rattle.std.specs.Prelude.{ℕ, ◌+◌, List, [], ◌∷◌, length, take, Result}
+use Rattle.refusal.specs.Answer.{answer_of, code_of}
+use Rattle.refusal.specs.declared.Refusal.{Refusal}
 use Rattle.book.specs.Bytes.{book_answer, book_bytes}
-use Rattle.book.specs.Promises.{booking_of, Books}
-use Rattle.book.specs.declared.Booking.{Booking}
+use Rattle.book.specs.Promises.{Books}
 use Rattle.piece.specs.Pieces.{pieces}
 
 -- the answer to each, 0 or its refusal, from the table that those before it left
@@ -28,5 +28,5 @@ bytes_of (p ∷ ps) = length p + bytes_of ps
 -- a call of `book::book` for each, in their order: what the calls answer, and the table that they leave
 pub data Calls : List ℕ → List (List ℕ) → List ℕ → List ℕ → Type 0 where
   none : {table : List ℕ} → Calls table [] [] table
-  next : {table p after last : List ℕ} {ps : List (List ℕ)} {x : Booking} {answers : List ℕ}
-      → Books table p x after → Calls after ps answers last → Calls table (p ∷ ps) (code_of (booking_of x) ∷ answers) last
+  next : {table p after last : List ℕ} {ps : List (List ℕ)} {x : Result (Unit {0}) Refusal} {answers : List ℕ}
+      → Books table p x after → Calls after ps answers last → Calls table (p ∷ ps) (code_of (answer_of x) ∷ answers) last

@@ -1,11 +1,10 @@
 -- What booking a text in one call promises.
-use Rattle.std.specs.Prelude.{ℕ, ◌≡◌, cond, List, length}
+use Rattle.std.specs.Prelude.{ℕ, ◌≡◌, cond, List, length, Result}
 use Rattle.std.proofs.lemmas.List.Edits.{sets}
-use Rattle.refusal.specs.Answer.{Answer, value, refused, refused_by}
+use Rattle.refusal.specs.Answer.{Answer, value, refused, answer_of}
+use Rattle.refusal.specs.declared.Refusal.{Refusal}
 use Rattle.table.specs.Tables.{sound}
 use Rattle.book_all.specs.InTurn.{answers_to, table_after, first_pieces, bytes_of}
-use Rattle.book_all.specs.declared.BookedAll.{BookedAll}
-use Rattle.book_all.specs.declared.BookedAll.TheVariants.{Done, Refused}
 use Rattle.book_all.specs.declared.Used.{Used}
 
 -- how many bytes and pieces of a text are used, with room for so many answers
@@ -26,12 +25,8 @@ abbrev pub answers_from : Answer Used → List ℕ → List ℕ → List ℕ →
 answers_from (value u) table text answers = sets answers 0 (answers_to table (first_pieces (length answers) text))
 answers_from (refused n f) table text answers = answers
 
-abbrev pub booked_all_of : BookedAll → Answer Used
-booked_all_of (Done u) = value u
-booked_all_of (Refused x) = refused_by x
-
 -- `book_all::book`: `after` and `given` are the lent table and the lent answers when it returns
-pub record BooksAll (table text answers : List ℕ) (x : BookedAll) (after given : List ℕ) : Type 0 where
-  pub said : booked_all_of x ≡ book_all_answer table text answers
+pub record BooksAll (table text answers : List ℕ) (x : Result Used Refusal) (after given : List ℕ) : Type 0 where
+  pub said : answer_of x ≡ book_all_answer table text answers
   pub out : after ≡ table_from (book_all_answer table text answers) table text answers
   pub told : given ≡ answers_from (book_all_answer table text answers) table text answers

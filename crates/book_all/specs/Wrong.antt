@@ -1,14 +1,13 @@
 -- Wrong ways to book a text in one call. proofs/Refuted.antt shows that none of them keeps the promise.
-use Rattle.std.specs.Prelude.{ℕ, ◌<◌, ◌≡◌, true, false, List, [], ◌∷◌, length, get_or}
+use Rattle.std.specs.Prelude.{ℕ, ◌<◌, ◌≡◌, true, false, List, [], ◌∷◌, length, get_or, Result, Ok}
 use Rattle.std.proofs.lemmas.List.Edits.{sets}
 use Rattle.refusal.specs.Answer.{code_of}
+use Rattle.refusal.specs.declared.Refusal.{Refusal}
 use Rattle.table.specs.Tables.{sound}
 use Rattle.book.specs.Bytes.{book_answer}
 use Rattle.piece.specs.Pieces.{pieces}
 use Rattle.book_all.specs.InTurn.{first_pieces}
 use Rattle.book_all.specs.Promises.{BooksAll}
-use Rattle.book_all.specs.declared.BookedAll.{BookedAll}
-use Rattle.book_all.specs.declared.BookedAll.TheVariants.{Done}
 use Rattle.book_all.specs.declared.Used.{Used}
 
 -- the answer to each piece from one and the same table
@@ -17,7 +16,7 @@ answers_from_one table [] = []
 answers_from_one table (p ∷ ps) = code_of (book_answer table p) ∷ answers_from_one table ps
 
 -- table, text and answers as they are lent give what is answered, and table and answers afterwards
-module _ (book_all : List ℕ → List ℕ → List ℕ → BookedAll × List ℕ × List ℕ) where
+module _ (book_all : List ℕ → List ℕ → List ℕ → Result Used Refusal × List ℕ × List ℕ) where
   abbrev pub Keeps : Type 0
   Keeps = (table text answers : List ℕ) →
       let r = book_all table text answers in
@@ -35,4 +34,4 @@ module _ (book_all : List ℕ → List ℕ → List ℕ → BookedAll × List �
 
   -- somewhere a damaged table is not refused
   abbrev pub TakesDamaged : Type 0
-  TakesDamaged = (table : List ℕ) × (text : List ℕ) × (answers : List ℕ) × (u : Used) × (sound table ≡ false) × ((book_all table text answers).0 ≡ Done u)
+  TakesDamaged = (table : List ℕ) × (text : List ℕ) × (answers : List ℕ) × (u : Used) × (sound table ≡ false) × ((book_all table text answers).0 ≡ Ok u)

@@ -2,14 +2,11 @@
 #![tactic(auto)]
 
 ghost use Rattle.std.specs.Prelude.{◌≡◌, true};
-ghost use Rattle.refusal.specs.Answer.{code_of};
+ghost use Rattle.refusal.specs.Answer.{answer_of, code_of};
 ghost use Rattle.table.specs.Tables.{sound};
 ghost use Rattle.lookup.specs.Beside.{Beside};
-ghost use Rattle.book.specs.Promises.{booking_of};
 ghost use Rattle.book_all.specs.Promises.{BooksAll};
-ghost use Rattle.book_all.specs.declared.BookedAll.TheVariants.{Done};
 
-use book::Booking;
 use refusal::Refusal;
 use table::damage;
 
@@ -20,19 +17,13 @@ pub struct Used {
     pub pieces: usize,
 }
 
-#[derive(Clone, Copy)]
-pub enum BookedAll {
-    Done(Used),
-    Refused(Refusal),
-}
-
 // The answer to a piece as one number.
-fn answer(x: Booking) -> u32
-    ensures { result ≡ code_of (booking_of x) }
+fn answer(x: Result<(), Refusal>) -> u32
+    ensures { result ≡ code_of (answer_of x) }
 {
     match x {
-        Booking::Booked => 0,
-        Booking::Refused(y) => refusal::code(y),
+        Ok(()) => 0,
+        Err(y) => refusal::code(y),
     }
 }
 
@@ -46,32 +37,32 @@ fn book_pieces(
 ) -> Used
     requires t_value { sound t.old ≡ true }
     requires beside { Beside t.old heads.old nexts.old }
-    ensures { BooksAll t.old text.now answers.old (Done result) t.new answers.new }
+    ensures { BooksAll t.old text.now answers.old (Ok result) t.new answers.new }
 {
-    let mut at = 0;
-    let mut n = 0;
-    while (at < text.len()) & (n < answers.len()) {
-        let cut = piece::cut(text, at);
-        let end = cut.end;
-        answers[n] = answer(book::book_sound(t, heads, nexts, &text[at..end], cut.plain));
-        n += 1;
-        at = end;
+    let mut bytes = 0;
+    for pieces in 0..answers.len() {
+        if text.len() <= bytes {
+            return Used { bytes, pieces };
+        }
+        let cut = piece::cut(text, bytes);
+        let said = book::book_sound(t, heads, nexts, &text[bytes..cut.end], cut.plain);
+        answers[pieces] = answer(said);
+        bytes = cut.end;
     }
-    Used {
-        bytes: at,
-        pieces: n,
-    }
+    let pieces = answers.len();
+    Used { bytes, pieces }
 }
 
 // Any bytes for a table, any text, any number of answers. A damaged table is refused before anything.
-pub fn book(t: &mut [u8], text: &[u8], answers: &mut [u32]) -> BookedAll
+#[tactic(auto, using(table::proofs::Limits::limit_most))]
+pub fn book(t: &mut [u8], text: &[u8], answers: &mut [u32]) -> Result<Used, Refusal>
     ensures { BooksAll t.old text.now answers.old result t.new answers.new }
 {
     if !damage::is_sound(t) {
-        return BookedAll::Refused(Refusal::Damaged);
+        return Err(Refusal::Damaged);
     }
     let mut heads = lookup::heads_buffer();
     let mut nexts = lookup::nexts_buffer();
     lookup::build(t, &mut heads, &mut nexts);
-    BookedAll::Done(book_pieces(t, &mut heads, &mut nexts, text, answers))
+    Ok(book_pieces(t, &mut heads, &mut nexts, text, answers))
 }

@@ -13,10 +13,8 @@ pub fn get(s: &[u8], at: usize, w: usize) -> u64
     ensures { result ≡ le (part s.now at w) }
 {
     let mut v: u64 = 0;
-    let mut i = w;
-    while 0 < i {
-        i -= 1;
-        v = v * 256 + s[at + i] as u64;
+    for i in (0..w).rev() {
+        v = v * 256 + u64::from(s[at + i]);
     }
     v
 }
@@ -27,10 +25,8 @@ pub fn put(out: &mut [u8], at: usize, w: usize, v: u64)
     ensures { out.new ≡ sets out.old at (le_bytes w v) }
 {
     let mut rest = v;
-    let mut i = 0;
-    while i < w {
+    for i in 0..w {
         out[at + i] = (rest % 256) as u8;
-        rest = rest / 256;
-        i += 1;
+        rest /= 256;
     }
 }

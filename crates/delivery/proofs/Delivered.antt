@@ -7,7 +7,9 @@ use mathlib.Core.List.{List, [], ◌∷◌, ◌++◌, append_assoc, append-nil}
 use borrow.Author.Tests.{le-ltb}
 use lib.ListN.{length, drop}
 use Rattle.run.proofs.Stores.{sets_start}
-use Rattle.refusal.specs.Answer.{Answer, value}
+use Rattle.std.specs.Prelude.{Result}
+use Rattle.refusal.specs.Answer.{Answer, value, answer_of}
+use Rattle.refusal.specs.declared.Refusal.{Refusal}
 use Rattle.layout.specs.Line.{read}
 use Rattle.quote.specs.declared.Quote.{Quote}
 use Rattle.day.specs.Demand3.{IsAnswer, IsSheet, AddsUp, joined, table_after, answer_to, history_after}
@@ -21,12 +23,10 @@ use Rattle.day.proofs.Demand3.{demand3}
 use Rattle.table.specs.Tables.{limit_of, table_in, sound, made_from}
 use Rattle.table.proofs.Limits.{limit_is, limit_none, least_length}
 use Rattle.table.proofs.Making.{taken}
-use Rattle.book.specs.Promises.{Books, booking_of}
-use Rattle.book.specs.declared.Booking.{Booking}
+use Rattle.book.specs.Promises.{Books}
 use Rattle.book.proofs.Reached.{Reached, reached_empty, reached_next, reached_answer}
-use Rattle.sheet.specs.Promises.{Sheets, sheet_written_of, sheet_answer, sheet_from, text_of}
+use Rattle.sheet.specs.Promises.{Sheets, sheet_answer, sheet_from, text_of}
 use Rattle.sheet.specs.Texts.{sheet_text, longest_sheet}
-use Rattle.sheet.specs.declared.SheetWritten.{SheetWritten}
 use Rattle.sheet.proofs.Bound.{least_sheet, sheet_bound}
 use Rattle.feed.specs.Printed.{report, printed_from}
 use Rattle.delivery.specs.Delivered.{Call, Day, begun, booked, accepted_in, in_order, refusal_lines, Shows, Delivered, Delivery}
@@ -43,8 +43,8 @@ module _ (s : List ℕ) (good : sound s ≡ true) (out : List ℕ) (room : lengt
   unfolding sheet_answer
   answer = rw (good, le-ltb (length out) (length (text_of s)) room)
 
-  sheet_written : {x : SheetWritten} {after : List ℕ} → Sheets s out x after
-      → (sheet_written_of x ≡ value (length (text_of s))) × (after ≡ text_of s ++ drop (length (text_of s)) out)
+  sheet_written : {x : Result ℕ Refusal} {after : List ℕ} → Sheets s out x after
+      → (answer_of x ≡ value (length (text_of s))) × (after ≡ text_of s ++ drop (length (text_of s)) out)
   sheet_written p = (
     p.said ∙ answer,
     p.out ∙ ap (λ (a : Answer ℕ). sheet_from a s out) answer ∙ sets_start out (text_of s) room,
@@ -64,8 +64,8 @@ module _ (before : List ℕ) (meant : 0 < limit_of (length before)) where
       subst (Reached limit []) (sym (m.out ∙ ap (λ (a : Answer (Unit {0})). made_from a before) (taken before meant))) (reached_empty before meant)
   reached (booked {calls = calls} c d b) = subst (Reached limit (pieces_in (c ∷ calls))) (sym b.out) (reached_next (reached d) c.piece)
 
-  same_answer : {calls : List Call} {table : List ℕ} → Day before calls table → (p : List ℕ) (x : Booking) (after : List ℕ) → Books table p x after
-      → booking_of x ≡ answer_to (book limit) (pieces_in calls) p
+  same_answer : {calls : List Call} {table : List ℕ} → Day before calls table → (p : List ℕ) (x : Result (Unit {0}) Refusal) (after : List ℕ) → Books table p x after
+      → answer_of x ≡ answer_to (book limit) (pieces_in calls) p
   same_answer d p x after b = b.said ∙ reached_answer (reached d) p
 
   same_history : {calls : List Call} {table : List ℕ} → Day before calls table → accepted_in calls ≡ history_after (book limit) (pieces_in calls)
@@ -86,8 +86,8 @@ module _ (before : List ℕ) (meant : 0 < limit_of (length before)) where
       ap (printed_from limit 1 empty) (append_assoc (in_order calls) (c.piece ∷ []) rest)
       ∙ printed_so d (c.piece ∷ rest)
       ∙ ap (λ (a : Answer (Unit {0})). said ++ (report (n + 1) a ++ more)) (sym (same_answer d c.piece c.answer after b))
-      ∙ sym (append_assoc said (report (n + 1) (booking_of c.answer)) more)
-      ∙ ap (λ (k : ℕ). (said ++ report (n + 1) (booking_of c.answer)) ++ printed_from limit k (day (c ∷ calls)) rest) number
+      ∙ sym (append_assoc said (report (n + 1) (answer_of c.answer)) more)
+      ∙ ap (λ (k : ℕ). (said ++ report (n + 1) (answer_of c.answer)) ++ printed_from limit k (day (c ∷ calls)) rest) number
 
   -- ---- the sheet
 

@@ -2,14 +2,15 @@
 use Prim.Native.Nat.{ℕ}
 use mathlib.Core.Path.{ap₂}
 use mathlib.Core.List.{List}
+use Rattle.std.specs.Prelude.{Result}
 use Rattle.refusal.specs.Answer.{Answer}
+use Rattle.refusal.specs.declared.Refusal.{Refusal}
 use Rattle.layout.specs.declared.Record.{Record}
 use Rattle.layout.proofs.Settled.{settled}
-use Rattle.line.specs.declared.Reading.{Reading}
-use Rattle.writing.specs.declared.Written.{Written}
+use Rattle.line.specs.declared.Said.{Said}
 use Rattle.delivery.specs.Reading.{reader, writer, ReadingDelivered}
 
-pub reading_delivered : (read : List ℕ → Reading) (write : Record → List ℕ → Written × List ℕ) → ReadingDelivered read write
+pub reading_delivered : (read : List ℕ → Result Said Refusal) (write : Record → List ℕ → (Result (Unit {0}) Refusal) × List ℕ) → ReadingDelivered read write
 reading_delivered read write p q =
     (settled (reader read write) (writer read write)).1
     (record {

@@ -1,22 +1,22 @@
 -- The tender's demand 2 of what is delivered: whatever keeps the promises of `line::read` and `writing::write` has it. proofs/Reading.antt proves it.
-use Rattle.std.specs.Prelude.{ℕ, List}
-use Rattle.refusal.specs.Answer.{Answer}
+use Rattle.std.specs.Prelude.{ℕ, List, Result}
+use Rattle.refusal.specs.Answer.{Answer, answer_by, answer_of}
+use Rattle.refusal.specs.declared.Refusal.{Refusal}
 use Rattle.layout.specs.Demand2.{Demand2}
-use Rattle.layout.specs.Line.{Said}
+use Rattle.layout.specs.Line.{Said as Line-Said}
 use Rattle.layout.specs.declared.Record.{Record}
 use Rattle.line.specs.Promises.{Read, said_of}
-use Rattle.line.specs.declared.Reading.{Reading}
-use Rattle.writing.specs.Promises.{Write, wrote_of}
-use Rattle.writing.specs.declared.Written.{Written}
+use Rattle.line.specs.declared.Said.{Said}
+use Rattle.writing.specs.Promises.{Write}
 
-module _ (read : List ℕ → Reading) (write : Record → List ℕ → Written × List ℕ) where
+module _ (read : List ℕ → Result Said Refusal) (write : Record → List ℕ → (Result (Unit {0}) Refusal) × List ℕ) where
   -- what is answered, in the paper's terms
-  abbrev pub reader : List ℕ → Answer Said
-  reader s = said_of (read s).outcome (read s).line
+  abbrev pub reader : List ℕ → Answer Line-Said
+  reader s = answer_by said_of (read s)
 
   -- what is answered, and the buffer afterwards
   abbrev pub writer : Record → List ℕ → Answer (Unit {0}) × List ℕ
-  writer r out = (wrote_of (write r out).0, (write r out).1)
+  writer r out = (answer_of (write r out).0, (write r out).1)
 
   abbrev pub ReadingDelivered : Type 0
   ReadingDelivered =

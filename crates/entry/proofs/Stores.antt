@@ -45,14 +45,6 @@ last {run = run} a = record { stored = a.stored ∙ rw (append-nil run) }
 
 -- ---- a series
 
-pub strike_stored : (s : Series) (at : ℕ) (l₀ : List ℕ) {l₁ l₂ l₃ l₄ : List ℕ} → l₁ ≡ sets l₀ at (filled 48 2 s.date)
-    → l₂ ≡ sets l₁ (at + 2) (filled 48 2 s.year) → l₃ ≡ sets l₂ (at + 4) (s.denominator ∷ [])
-    → l₄ ≡ sets l₃ (at + 5) (filled 48 6 s.strike) → l₄ ≡ sets l₀ at (strike_bytes s)
-strike_stored s at l₀ {l₁} date year denominator strike =
-    let first : Stored l₀ at 2 (filled 48 2 s.date) l₁ = digits 2 s.date date in
-    (then first (then (digits 2 s.year year) (then (byte s.denominator denominator) (last (digits 6 s.strike strike)) (omega arith)) (omega arith)) refl
-    ).stored
-
 pub series_stored : (s : Series) (at : ℕ) (l₀ : List ℕ) {l₁ l₂ l₃ : List ℕ} → length s.root ≡ 6 → l₁ ≡ sets l₀ at s.root
     → l₂ ≡ sets l₁ (at + 6) (s.month ∷ []) → l₃ ≡ sets l₂ (at + 7) (strike_bytes s) → l₃ ≡ sets l₀ at (series_bytes s)
 series_stored s at l₀ {l₁} {l₂} {l₃} wide root month strike =

@@ -4,9 +4,6 @@
 mod read;
 mod write;
 
-use groups::End;
-use order::{Order, Series};
-use quote::{Quote, QuoteRow};
 pub use read::{order_at, row_at};
 pub use write::{put_order, put_row};
 
@@ -24,35 +21,3 @@ const ROW_NUMBERS: usize = 2;
 pub const ORDER: usize = 115;
 
 pub const ROW: usize = 61;
-
-// An enum holds no array, so what was read stands beside whether it was.
-#[derive(Clone, Copy)]
-pub(crate) struct SeriesRead {
-    pub found: bool,
-    pub series: Series,
-}
-
-#[derive(Clone, Copy)]
-pub(crate) struct Head {
-    pub found: bool,
-    pub quote: Quote,
-}
-
-// The place behind an entry, or nowhere.
-#[derive(Clone, Copy)]
-pub(crate) struct Entry {
-    pub next: End,
-    pub quote: Quote,
-}
-
-#[derive(Clone, Copy)]
-pub struct OrderRead {
-    pub next: End,
-    pub order: Order,
-}
-
-#[derive(Clone, Copy)]
-pub struct RowRead {
-    pub next: End,
-    pub row: QuoteRow,
-}

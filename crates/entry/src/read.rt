@@ -1,33 +1,16 @@
 // An order and a quote row read at a place of lent bytes. What is there may be anything.
-ghost use Rattle.std.specs.Prelude.{◌+◌, ◌≤◌, ◌≡◌, cond, length, drop};
-ghost use Rattle.groups.specs.declared.End.TheVariants.{Nowhere};
+ghost use Rattle.std.specs.Prelude.{◌+◌, ◌≤◌, ◌≡◌, length, drop};
+ghost use Rattle.order.specs.Stored.{sound_order};
+ghost use Rattle.quote.specs.Quotes.{sound_row};
+ghost use Rattle.groups.specs.Groups.{taken_at};
 ghost use Rattle.saved.specs.Heads.{cut, head_from, head_in, head_width, head_widths, series_from, series_widths};
-ghost use Rattle.saved.specs.Entries.{row_from, saved_order_in, saved_row_in};
-ghost use Rattle.entry.specs.Reads.{Finds, Makes, Reads, ReadsEntry, is_value, key_from, series_of, size_in, value_of};
+ghost use Rattle.saved.specs.Entries.{entry_in, order_from, row_from, saved_order_in, saved_row_in};
+ghost use Rattle.entry.specs.Reads.{found, key_from, parted, size_in, sound_only};
 
-use crate::{Entry, HEAD, Head, ORDER_NUMBERS, OrderRead, ROW_NUMBERS, RowRead, SeriesRead, TOKEN};
-use field::{Number, digits};
-use groups::End;
+use crate::{HEAD, ORDER_NUMBERS, ROW_NUMBERS, TOKEN};
+use field::digits;
 use order::{Figures, Key, Order, Series};
 use quote::{Quote, QuoteRow};
-
-fn is_value(n: Number) -> bool
-    ensures { result ≡ is_value n }
-{
-    match n {
-        Number::Value(_) => true,
-        Number::Bad => false,
-    }
-}
-
-fn value_of(n: Number) -> u64
-    ensures { result ≡ value_of n }
-{
-    match n {
-        Number::Value(v) => v,
-        Number::Bad => 0,
-    }
-}
 
 // The Source, and w characters of a token, padded with spaces.
 fn key_in(b: &[u8], w: usize) -> Key
@@ -35,200 +18,143 @@ fn key_in(b: &[u8], w: usize) -> Key
     requires w_in_bounds { 6 + w ≤ length b.now }
     ensures { result ≡ key_from w b.now }
 {
-    let mut source = [0u8; 6];
-    run::copy(&mut source, &b[0..6]);
     let mut token = [b' '; 20];
     run::store(&mut token, 0, &b[6..6 + w]);
-    Key { source, token }
-}
-
-// A series of the bytes b, its numbers being read.
-fn series_of(b: &[u8], date: Number, year: Number, strike: Number) -> SeriesRead
-    requires { length b.now ≡ 18 }
-    ensures { result ≡ series_of b.now date year strike }
-{
-    let mut root = [0u8; 6];
-    run::copy(&mut root, &b[0..6]);
-    SeriesRead {
-        found: is_value(date) & is_value(year) & is_value(strike),
-        series: Series {
-            root,
-            month: b[6],
-            date: value_of(date),
-            year: value_of(year),
-            denominator: b[11],
-            strike: value_of(strike),
-        },
+    Key {
+        source: run::array(b, 0),
+        token,
     }
 }
 
 // b is the 18 bytes of a series, or others as many.
-fn series_in(b: &[u8]) -> SeriesRead
+fn series_in(b: &[u8]) -> Option<Series>
     requires { length b.now ≡ 18 }
-    ensures { Finds (series_from (cut series_widths b.now)) result.found result.series }
+    ensures { result ≡ found (series_from (cut series_widths b.now)) }
 {
-    let date = digits::exactly(&b[7..9], layout::FIRST_DATE, layout::LAST_DATE);
-    let year = digits::exactly(&b[9..11], 0, layout::LAST_YEAR);
+    let date = digits::exactly(&b[7..9], layout::FIRST_DATE, layout::LAST_DATE)?;
+    let year = digits::exactly(&b[9..11], 0, layout::LAST_YEAR)?;
     let least = layout::least_strike(b[11]);
-    let strike = digits::exactly(&b[12..18], least, layout::MOST_STRIKE);
-    series_of(b, date, year, strike)
+    let strike = digits::exactly(&b[12..18], least, layout::MOST_STRIKE)?;
+    Some(Series {
+        root: run::array(b, 0),
+        month: b[6],
+        date,
+        year,
+        denominator: b[11],
+        strike,
+    })
 }
 
 // b is a head with w characters of a token, or other bytes as many.
-fn head_in(b: &[u8], w: usize) -> Head
+fn head_in(b: &[u8], w: usize) -> Option<Quote>
     requires w_bound { w ≤ 20 }
     requires b_len { length b.now ≡ head_width w }
-    ensures { Finds (head_from w (cut (head_widths w) b.now)) result.found result.quote }
+    ensures { result ≡ found (head_from w (cut (head_widths w) b.now)) }
 {
-    let read = series_in(&b[w + 7..w + 25]);
-    let series = read.series;
-    Head {
-        found: read.found,
-        quote: Quote {
-            key: key_in(b, w),
-            side: b[w + 6],
-            series,
-        },
-    }
+    let series = series_in(&b[w + 7..w + 25])?;
+    Some(Quote {
+        key: key_in(b, w),
+        side: b[w + 6],
+        series,
+    })
 }
 
-// What stands beside an answer that nothing was read.
-fn no_quote() -> Quote {
-    Quote {
-        key: Key {
-            source: [0; 6],
-            token: [0; 20],
-        },
-        side: 0,
-        series: Series {
-            root: [0; 6],
-            month: 0,
-            date: 0,
-            year: 0,
-            denominator: 0,
-            strike: 0,
-        },
-    }
-}
-
-fn head_at(s: &[u8], at: usize, w: usize) -> Head
+fn head_at(s: &[u8], at: usize, w: usize) -> Option<Quote>
     requires w_bound { w ≤ 20 }
     requires at_in_bounds { at ≤ length s.now }
-    ensures { Finds (head_in w (drop at s.now)) result.found result.quote }
+    ensures { result ≡ found (head_in w (drop at s.now)) }
 {
     if s.len() - at < HEAD + w {
-        return Head {
-            found: false,
-            quote: no_quote(),
-        };
+        return None;
     }
     head_in(&s[at..at + (HEAD + w)], w)
 }
 
-// A head, and as many numbers behind it as are lent.
-fn entry_at(s: &[u8], at: usize, w: usize, values: &mut [u64]) -> Entry
+// A head and N numbers behind it, and the place behind these.
+fn entry_at<const N: usize>(s: &[u8], at: usize, w: usize) -> Option<((Quote, [u64; N]), usize)>
     requires w_bound { w ≤ 20 }
     requires at_in_bounds { at ≤ length s.now }
-    ensures { ReadsEntry w s.now at values.old result values.new }
+    ensures { result ≡ taken_at at (entry_in parted w N (drop at s.now)) }
 {
-    let head = head_at(s, at, w);
-    let quote = head.quote;
-    if !head.found {
-        return Entry {
-            next: End::Nowhere,
-            quote,
-        };
-    }
-    let next = groups::get_all(s, at + (HEAD + w), values);
-    Entry { next, quote }
+    let quote = head_at(s, at, w)?;
+    let mut numbers = [0u64; N];
+    let next = groups::get_all(s, at + (HEAD + w), &mut numbers)?;
+    Some(((quote, numbers), next))
 }
 
-// The size of an order by its four parts; 0, which is none, where one of them is above any size: their sum might be more than a number holds.
-fn size_of(executed: u64, cancelled: u64, passed: u64, open: u64) -> u64
+// The size of an order by its four parts. Where one is above any size there is none: their sum might be more than a number holds.
+fn size_of(executed: u64, cancelled: u64, passed: u64, open: u64) -> Option<u64>
     ensures { result ≡ size_in executed cancelled passed «open» }
 {
     let small = (executed <= layout::MOST_CONTRACTS)
         & (cancelled <= layout::MOST_CONTRACTS)
         & (passed <= layout::MOST_CONTRACTS)
         & (open <= layout::MOST_CONTRACTS);
-    if !small {
-        return 0;
+    if small {
+        Some(executed + cancelled + passed + open)
+    } else {
+        None
     }
-    executed + cancelled + passed + open
 }
 
-fn order_from(q: Quote, values: &[u64]) -> Order
-    requires { length values.now ≡ 7 }
-    ensures { Makes q values.now result }
+// An order of its parts, if it is sound by itself.
+fn order_from(q: Quote, numbers: [u64; ORDER_NUMBERS]) -> Option<Order>
+    ensures { result ≡ sound_only sound_order (order_from q numbers) }
 {
-    let key = q.key;
-    let series = q.series;
-    Order {
-        key,
+    let [price, elder, executed, broken, cancelled, passed, open] = numbers;
+    let order = Order {
+        key: q.key,
         side: q.side,
-        series,
-        price: values[0],
-        elder: values[1],
+        series: q.series,
+        price,
+        elder,
         figures: Figures {
-            size: size_of(values[2], values[4], values[5], values[6]),
-            executed: values[2],
-            broken: values[3],
-            cancelled: values[4],
-            passed: values[5],
-            open: values[6],
+            size: size_of(executed, cancelled, passed, open)?,
+            executed,
+            broken,
+            cancelled,
+            passed,
+            open,
         },
+    };
+    if order::sound_order(order) {
+        Some(order)
+    } else {
+        None
     }
 }
 
-fn row_from(q: Quote, values: &[u64]) -> QuoteRow
-    requires { length values.now ≡ 2 }
-    ensures { result ≡ row_from q values.now }
+// A quote row, likewise.
+fn row_from(quote: Quote, numbers: [u64; ROW_NUMBERS]) -> Option<QuoteRow>
+    ensures { result ≡ sound_only sound_row (row_from quote numbers) }
 {
-    QuoteRow {
-        quote: q,
-        executed: values[0],
-        broken: values[1],
+    let [executed, broken] = numbers;
+    let row = QuoteRow {
+        quote,
+        executed,
+        broken,
+    };
+    if quote::sound_row(row) {
+        Some(row)
+    } else {
+        None
     }
 }
 
-// The end of what is sound.
-fn only_if(sound: bool, next: End) -> End
-    ensures { result ≡ cond sound next Nowhere }
-{
-    if sound {
-        return next;
-    }
-    End::Nowhere
-}
-
-// An order that is sound by itself.
-pub fn order_at(s: &[u8], at: usize) -> OrderRead
+// An order that is sound by itself, and the place behind it.
+pub fn order_at(s: &[u8], at: usize) -> Option<(Order, usize)>
     requires { at ≤ length s.now }
-    ensures { Reads at (saved_order_in (drop at s.now)) result.next result.order }
+    ensures { result ≡ taken_at at (saved_order_in (drop at s.now)) }
 {
-    let mut values = [0u64; ORDER_NUMBERS];
-    let entry = entry_at(s, at, TOKEN, &mut values);
-    let quote = entry.quote;
-    let next = entry.next;
-    let order = order_from(quote, &values);
-    OrderRead {
-        next: only_if(order::sound_order(order), next),
-        order,
-    }
+    let ((quote, numbers), next) = entry_at(s, at, TOKEN)?;
+    Some((order_from(quote, numbers)?, next))
 }
 
-// A quote row that is sound by itself.
-pub fn row_at(s: &[u8], at: usize) -> RowRead
+// A quote row, likewise. The two differ in two constants and a function: a trait that holds these is longer than both.
+pub fn row_at(s: &[u8], at: usize) -> Option<(QuoteRow, usize)>
     requires { at ≤ length s.now }
-    ensures { Reads at (saved_row_in (drop at s.now)) result.next result.row }
+    ensures { result ≡ taken_at at (saved_row_in (drop at s.now)) }
 {
-    let mut values = [0u64; ROW_NUMBERS];
-    let entry = entry_at(s, at, quote::ID, &mut values);
-    let quote = entry.quote;
-    let next = entry.next;
-    let row = row_from(quote, &values);
-    RowRead {
-        next: only_if(quote::sound_row(row), next),
-        row,
-    }
+    let ((quote, numbers), next) = entry_at(s, at, quote::ID)?;
+    Some((row_from(quote, numbers)?, next))
 }

@@ -1,5 +1,5 @@
 // An order and a quote row written to the front of lent bytes.
-ghost use Rattle.std.specs.Prelude.{◌+◌, ◌*◌, ◌≤◌, ◌≡◌, ◌++◌, length, take};
+ghost use Rattle.std.specs.Prelude.{◌+◌, ◌*◌, ◌≤◌, ◌≡◌, ◌++◌, length};
 ghost use Rattle.std.proofs.lemmas.List.Edits.{sets};
 ghost use Rattle.groups.specs.Taken.{joined};
 ghost use Rattle.groups.specs.Groups.{Puts, number_bytes};
@@ -11,15 +11,6 @@ use crate::TOKEN;
 use field::put;
 use order::{Order, Series};
 use quote::{Quote, QuoteRow};
-
-// The first w characters of a token.
-fn put_name(out: &mut [u8], at: usize, token: &[u8], w: usize)
-    requires w_in_bounds { w ≤ length token.now }
-    requires w_in_bounds_2 { at + w ≤ length out.old }
-    ensures { out.new ≡ sets out.old at (take w token.now) }
-{
-    run::store(out, at, &token[0..w]);
-}
 
 // Fields 18 to 21.
 fn put_strike(out: &mut [u8], at: usize, s: Series)
@@ -37,8 +28,7 @@ fn put_series(out: &mut [u8], at: usize, s: Series)
     requires { at + 18 ≤ length out.old }
     ensures { out.new ≡ sets out.old at (series_bytes s) }
 {
-    let root = s.root;
-    run::store(out, at, &root);
+    run::store(out, at, &s.root);
     run::byte(out, at + 6, s.month);
     put_strike(out, at + 7, s);
 }
@@ -49,10 +39,8 @@ fn put_head(out: &mut [u8], w: usize, q: Quote)
     requires w_in_bounds { head_width w ≤ length out.old }
     ensures { out.new ≡ sets out.old 0 (head_bytes w q) }
 {
-    let source = q.key.source;
-    run::store(out, 0, &source);
-    let token = q.key.token;
-    put_name(out, 6, &token, w);
+    run::store(out, 0, &q.key.source);
+    run::store(out, 6, &q.key.token[0..w]);
     run::byte(out, 6 + w, q.side);
     put_series(out, 7 + w, q.series);
 }
@@ -72,8 +60,6 @@ pub fn put_order(out: &mut [u8], o: Order) -> usize
     requires { 115 ≤ length out.old }
     ensures { Puts (saved_order o) 0 out.old result out.new }
 {
-    let key = o.key;
-    let series = o.series;
     let f = o.figures;
     let numbers = [
         o.price,
@@ -85,9 +71,9 @@ pub fn put_order(out: &mut [u8], o: Order) -> usize
         f.open,
     ];
     let head = Quote {
-        key,
+        key: o.key,
         side: o.side,
-        series,
+        series: o.series,
     };
     put_entry(out, TOKEN, head, &numbers)
 }

@@ -7,17 +7,16 @@ use mathlib.Core.List.{List, [], ◌∷◌}
 use borrow.Author.Tests.{le-ltb}
 use lib.ListN.{length, drop, length-append, length-take, length-drop}
 use lib.Seq.{length-sets}
-use Rattle.refusal.specs.Answer.{Answer, value}
+use Rattle.std.specs.Prelude.{Result, Ok, Err, IsOk}
+use Rattle.refusal.specs.Answer.{Answer, value, answer_of}
 use Rattle.refusal.specs.declared.Refusal.{Refusal}
 use Rattle.table.specs.Tables.{table_length, least_limit, limit_of, sound}
 use Rattle.table.proofs.Limits.{limit_is}
 use Rattle.book.proofs.Lengths.{booked_length}
 use Rattle.book.proofs.Machine.{booked_sound}
 use Rattle.row.specs.Writes.{Wrote}
-use Rattle.sheet.specs.Promises.{text_of, sheet_written_of, sheet_answer, sheet_from, Sheets}
+use Rattle.sheet.specs.Promises.{text_of, sheet_answer, sheet_from, Sheets}
 use Rattle.sheet.specs.Texts.{longest_sheet}
-use Rattle.sheet.specs.declared.SheetWritten.{SheetWritten}
-use Rattle.sheet.specs.declared.SheetWritten.TheVariants.{Done, Refused}
 use Rattle.sheet.proofs.Bound.{sheet_bound, least_sheet}
 use Rattle.sheet.proofs.Joining.{lent, back, one_text}
 use Rattle.feed.specs.Steps.{Between, between, longest, last_said, last_table, finished, room_at_end}
@@ -25,26 +24,19 @@ use Rattle.feed.proofs.Longest.{said_most}
 
 -- ---- the sheet
 
-refusal_apart : (x : SheetWritten) (y : Refusal) (a : Answer ℕ) (n : ℕ) → x ≡ Refused y → sheet_written_of x ≡ a → a ≡ value n → ⊥
-refusal_apart x y a n q w e = let z : ◌≡◌ {A = ℕ} 0 1 = cc in omega arith
-
-done_so : (x : SheetWritten) (a : Answer ℕ) (n m : ℕ) → x ≡ Done n → sheet_written_of x ≡ a → a ≡ value m → n ≡ m
-done_so x a n m q w e = cc
-
 module _ (s before : List ℕ) (e : sound s ≡ true) (h : longest_sheet (limit_of (length s)) ≤ length before) where
   sheet_done : sheet_answer s before ≡ value (length (text_of s))
   unfolding sheet_answer
   sheet_done = rw (e, le-ltb (length before) (length (text_of s)) (omega (arith, sheet_bound s e)))
 
-  pub never_refused : {x : SheetWritten} {y : Refusal} {after : List ℕ} → x ≡ Refused y → Sheets s before x after → ⊥
-  never_refused {x} {y} q w = refusal_apart x y (sheet_answer s before) (length (text_of s)) q w.said sheet_done
+  pub never_refused : (x : Result ℕ Refusal) {after : List ℕ} → Sheets s before x after → IsOk x
+  never_refused (Ok n) w = refl
+  never_refused (Err y) w = let none = w.said ∙ sheet_done in cc
 
-  pub sheet_written : {x : SheetWritten} {n : ℕ} {after : List ℕ} → x ≡ Done n → Sheets s before x after → Wrote (text_of s) before after n
+  pub sheet_written : {x : Result ℕ Refusal} {n : ℕ} {after : List ℕ} → x ≡ Ok n → Sheets s before x after → Wrote (text_of s) before after n
   sheet_written {x} {n} q w =
-      record {
-        long = done_so x (sheet_answer s before) n (length (text_of s)) q w.said sheet_done;
-        out = w.out ∙ ap (λ (a : Answer ℕ). sheet_from a s before) sheet_done;
-      }
+      let said : value n ≡ value (length (text_of s)) = ap answer_of (sym q) ∙ w.said ∙ sheet_done in
+      record { long = cc; out = w.out ∙ ap (λ (a : Answer ℕ). sheet_from a s before) sheet_done }
 
 -- ---- the last piece, and the sheet behind it
 

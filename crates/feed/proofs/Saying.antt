@@ -4,12 +4,11 @@ use native.Mathlib.Omega.{arith}
 use mathlib.Core.Path.{◌≡◌, refl, ◌∙◌}
 use mathlib.Core.List.{List, [], ◌∷◌, ◌++◌}
 use lib.ListN.{length}
+use Rattle.std.specs.Prelude.{Result, Ok, Err}
 use Rattle.refusal.specs.Numbers.{number_of, field_of}
 use Rattle.refusal.specs.declared.Refusal.{Refusal}
 use Rattle.book.specs.Bytes.{book_answer, book_bytes}
 use Rattle.book.specs.Promises.{Books}
-use Rattle.book.specs.declared.Booking.{Booking}
-use Rattle.book.specs.declared.Booking.TheVariants.{Booked, Refused}
 use Rattle.row.specs.Writes.{Wrote}
 use Rattle.feed.specs.Printed.{refusal_line, report}
 use Rattle.feed.specs.Steps.{between, kept_of, last_said, last_table}
@@ -19,12 +18,12 @@ use Rattle.feed.proofs.Enough.{verbatim_answer, kept_bytes}
 abbrev pub Says : (line : ℕ) (t p before out : List ℕ) (r : ℕ) (after : List ℕ) → Type 0
 Says line t p before out r after = Wrote (report line (book_answer t p)) before out r × (after ≡ book_bytes t p)
 
-pub booked_says : (line : ℕ) (t p : List ℕ) {before after : List ℕ} (x : Booking) → x ≡ Booked → Books t p x after
+pub booked_says : (line : ℕ) (t p : List ℕ) {before after : List ℕ} (x : Result (Unit {0}) Refusal) → x ≡ Ok tt → Books t p x after
     → Says line t p before before 0 after
 booked_says line t p x e b = (rw (← b.said, e) (record { long = refl; out = refl }), b.out)
 
 module _ (line : ℕ) (t : List ℕ) {before out : List ℕ} {r : ℕ} {after : List ℕ} where
-  pub refused_says : (p : List ℕ) (x : Booking) (y : Refusal) → x ≡ Refused y → Books t p x after
+  pub refused_says : (p : List ℕ) (x : Result (Unit {0}) Refusal) (y : Refusal) → x ≡ Err y → Books t p x after
       → Wrote (refusal_line line (number_of y) (field_of y)) before out r → Says line t p before out r after
   refused_says p x y e b w = (rw (← b.said, e) w, b.out)
 

@@ -9,7 +9,6 @@ ghost use Rattle.feed.specs.Printed.{report as printed_report};
 ghost use Rattle.feed.specs.Steps.{kept_of, longest, next_line, nothing_held};
 
 use crate::report;
-use book::Booking;
 use std::marker::Model;
 
 // One byte more than a line, so that a piece that is too long is seen to be.
@@ -95,8 +94,8 @@ fn book_piece(
     ensures beside_2 { Beside t.new heads.new nexts.new }
 {
     match book::book_sound(t, heads, nexts, piece, plain) {
-        Booking::Booked => 0,
-        Booking::Refused(x) => report::refused(line, x, out),
+        Ok(()) => 0,
+        Err(x) => report::refused(line, x, out),
     }
 }
 

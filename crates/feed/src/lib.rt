@@ -13,7 +13,6 @@ mod hold;
 mod report;
 
 pub use hold::Hold;
-use sheet::SheetWritten;
 
 // The longest refusal line.
 const LONGEST: usize = 46;
@@ -85,10 +84,7 @@ fn sheet_of(t: &[u8], out: &mut [u8]) -> usize
     requires t_in_bounds { longest_sheet (limit_of (length t.now)) ≤ length out.old }
     ensures { Wrote (text_of t.now) out.old out.new result }
 {
-    let SheetWritten::Done(n) = sheet::write_sound(t, out) else {
-        return 0;
-    };
-    n
+    sheet::write_sound(t, out).unwrap()
 }
 
 // The end of the text: the last piece, and behind it the sheet.

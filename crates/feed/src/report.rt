@@ -1,4 +1,5 @@
-// A refusal line: line L refused R, with field F after a 3.
+// A refusal line: line L refused R, with field F after a 3. It is put into the lent buffer, as `row` puts its texts: a Display would want a writer over
+// the buffer beside it, and is no plainer.
 ghost use Rattle.std.specs.Prelude.{◌+◌, ◌≤◌, length};
 ghost use Rattle.refusal.specs.Numbers.{number_of, field_of};
 ghost use Rattle.row.specs.Writes.{Put, Wrote};

@@ -13,8 +13,7 @@ use lib.ListN.{length, length-append}
 use Rattle.field.specs.Byte.{is_of}
 use Rattle.field.specs.Number.{digits_after, rest, filled}
 use Rattle.field.specs.declared.Class.TheVariants.{Digit}
-use Rattle.field.specs.declared.Number.{Number}
-use Rattle.field.specs.declared.Number.TheVariants.{Value, Bad}
+use Rattle.std.specs.Prelude.{Option, Some, None}
 
 -- ---- tests and what they guard
 
@@ -24,33 +23,33 @@ between a b x e = let h = (and-eq-true_iff (leb a x) (leb x b)).0 e in (leb-true
 pub is_between : (a b x : ℕ) → a ≤ x → x ≤ b → (leb a x && leb x b) ≡ true
 is_between a b x h k = rw (le-leb a x h, le-leb x b k)
 
-pub bad_value : {v : ℕ} → Bad ≡ Value v → ⊥
+pub bad_value : {v : ℕ} → None ≡ Some v → ⊥
 bad_value e = let z : ◌≡◌ {A = ℕ} 0 1 = cc in omega arith
 
 -- where a value came out, the test before it passed
-pub guarded : (t : Bool) (n : Number) (v : ℕ) → cond t n Bad ≡ Value v → (t ≡ true) × (n ≡ Value v)
+pub guarded : (t : Bool) (n : Option ℕ) (v : ℕ) → cond t n None ≡ Some v → (t ≡ true) × (n ≡ Some v)
 guarded true n v e = (refl, e)
 guarded false n v e = absurd (bad_value e)
 
 -- ---- reading
 
 -- the first digit becomes the last one of the number so far
-pub first_digit : (n b : ℕ) (s : List ℕ) (v : ℕ) → digits_after n (b ∷ s) ≡ Value v
-    → let m = n * 10 + (b - 48) in (m / 10 ≡ n) × (48 + m % 10 ≡ b) × (digits_after m s ≡ Value v)
+pub first_digit : (n b : ℕ) (s : List ℕ) (v : ℕ) → digits_after n (b ∷ s) ≡ Some v
+    → let m = n * 10 + (b - 48) in (m / 10 ≡ n) × (48 + m % 10 ≡ b) × (digits_after m s ≡ Some v)
 first_digit n b s v e =
     let g = guarded (is_of Digit b) (digits_after (n * 10 + (b - 48)) s) v e in
     let d = between 48 57 b g.0 in
     (omega arith, omega arith, g.1)
 
 -- digits after digits go on with the number so far
-pub digits_then : (s t : List ℕ) (a n : ℕ) → digits_after a s ≡ Value n → digits_after a (s ++ t) ≡ digits_after n t
+pub digits_then : (s t : List ℕ) (a n : ℕ) → digits_after a s ≡ Some n → digits_after a (s ++ t) ≡ digits_after n t
 digits_then [] t a n e = cc
 digits_then (b ∷ s) t a n e =
     let g = guarded (is_of Digit b) (digits_after (a * 10 + (b - 48)) s) n e in
     rw g.0 (digits_then s t (a * 10 + (b - 48)) n g.1)
 
-pub digit_read : (n d v : ℕ) → d ≤ 9 → n * 10 + d ≡ v → digits_after n ((48 + d) ∷ []) ≡ Value v
-digit_read n d v h e = rw (is_between 48 57 (48 + d) (omega arith) (omega arith)) (ap Value (omega arith))
+pub digit_read : (n d v : ℕ) → d ≤ 9 → n * 10 + d ≡ v → digits_after n ((48 + d) ∷ []) ≡ Some v
+digit_read n d v h e = rw (is_between 48 57 (48 + d) (omega arith) (omega arith)) (ap Some (omega arith))
 
 -- a byte of the rest is a digit, unless the fill stands there
 digit_byte : (fill v : ℕ) → (v ≡ 0 → fill ≡ 48) → cond (eqb v 0) fill (48 + v % 10) ≡ 48 + v % 10
@@ -64,23 +63,23 @@ filled_rest fill (suc w) v h = rw (digit_byte fill v h)
 -- a reader that passes over the fill, reads one digit, and after a number that is not 0 goes on with digits, reads what is filled
 module _
     (fill : ℕ)
-    (read : List ℕ → Number)
+    (read : List ℕ → Option ℕ)
     (skip : (t : List ℕ) → read (fill ∷ t) ≡ read t)
-    (one : (d : ℕ) → d ≤ 9 → read ((48 + d) ∷ []) ≡ Value d)
-    (more : (s t : List ℕ) (n : ℕ) → 0 < n → read s ≡ Value n → read (s ++ t) ≡ digits_after n t)
+    (one : (d : ℕ) → d ≤ 9 → read ((48 + d) ∷ []) ≡ Some d)
+    (more : (s t : List ℕ) (n : ℕ) → 0 < n → read s ≡ Some n → read (s ++ t) ≡ digits_after n t)
   where
     skip_rest : (w : ℕ) (t : List ℕ) → read (rest fill w 0 ++ t) ≡ read t
     skip_rest zero t = refl
     skip_rest (suc w) t = rw (append_assoc (rest fill w 0) (fill ∷ []) t) (skip_rest w (fill ∷ t) ∙ skip t)
 
-    one_read : (w v : ℕ) → v / 10 ≡ 0 → read (filled fill (suc w) v) ≡ Value v
-    one_read w v e = rw e (skip_rest w ((48 + v % 10) ∷ []) ∙ one (v % 10) (omega arith) ∙ ap Value (omega arith))
+    one_read : (w v : ℕ) → v / 10 ≡ 0 → read (filled fill (suc w) v) ≡ Some v
+    one_read w v e = rw e (skip_rest w ((48 + v % 10) ∷ []) ∙ one (v % 10) (omega arith) ∙ ap Some (omega arith))
 
-    pub filled_read : (w v : ℕ) → v < 10 ^ suc w → read (filled fill (suc w) v) ≡ Value v
+    pub filled_read : (w v : ℕ) → v < 10 ^ suc w → read (filled fill (suc w) v) ≡ Some v
     filled_read zero v h = one_read zero v (omega arith)
     filled_read (suc w) v h = go (eq-zero-or-pos (v / 10)) (filled_read w (v / 10) (omega (arith, pow-suc 10 (suc w))))
       where
-        go : (v / 10 ≡ 0) ⊎ (0 < v / 10) → read (filled fill (suc w) (v / 10)) ≡ Value (v / 10) → read (filled fill (suc (suc w)) v) ≡ Value v
+        go : (v / 10 ≡ 0) ⊎ (0 < v / 10) → read (filled fill (suc w) (v / 10)) ≡ Some (v / 10) → read (filled fill (suc (suc w)) v) ≡ Some v
         go (inl e) ih = one_read (suc w) v e
         go (inr p) ih =
             rw (← filled_rest fill (suc w) (v / 10) (λ e. absurd (omega arith)))
@@ -102,7 +101,7 @@ snoc_written write fill s b n v w q e = rw (length_snoc s b) (e ∙ rw (q, w.0),
 
 -- digits that are read behind what is written, unless the first is a 0 for which the fill stands
 pub digits_written : (fill : ℕ) (s : List ℕ) (b : ℕ) (t : List ℕ) (n v : ℕ) → (n * 10 + (b - 48) ≡ 0 → fill ≡ 48)
-    → FillWritten (rest fill) s n → digits_after n (b ∷ t) ≡ Value v → FillWritten (filled fill) (s ++ b ∷ t) v
+    → FillWritten (rest fill) s n → digits_after n (b ∷ t) ≡ Some v → FillWritten (filled fill) (s ++ b ∷ t) v
 digits_written fill s b [] n v h w e =
     let d = first_digit n b [] v e in
     let m : n * 10 + (b - 48) ≡ v = cc in

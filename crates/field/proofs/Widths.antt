@@ -12,12 +12,12 @@ use Rattle.field.specs.Byte.{is_of}
 use Rattle.field.specs.Number.{digits_after, lone_zero, spaced}
 use Rattle.field.specs.Widths.{Justified, Widths}
 use Rattle.field.specs.declared.Class.TheVariants.{Digit}
-use Rattle.field.specs.declared.Number.TheVariants.{Value}
 use Rattle.field.proofs.Fill.{between, bad_value, guarded}
 use Rattle.field.proofs.Laws.{pow10_mono, length_filled, length_price, digits_read, digits_write, spaced_back, spaced_write, price_read, price_write}
+use Rattle.std.specs.Prelude.{Some}
 
 -- digits after those that said a say at least a in their place
-at_least : (a : ℕ) (s : List ℕ) (v : ℕ) → digits_after a s ≡ Value v → a * 10 ^ length s ≤ v
+at_least : (a : ℕ) (s : List ℕ) (v : ℕ) → digits_after a s ≡ Some v → a * 10 ^ length s ≤ v
 at_least a [] v e = let z : a ≡ v = cc in omega arith
 at_least a (b ∷ s) v e =
     let m = a * 10 + (b - 48) in
@@ -26,7 +26,7 @@ at_least a (b ∷ s) v e =
     rw (pow-suc 10 (length s)) (omega (arith, at_least m s v g.1, more))
 
 -- a first digit that is not 0 needs its place
-needed : (b : ℕ) (s : List ℕ) (v k : ℕ) → (b ≡ 48 → ⊥) → digits_after 0 (b ∷ s) ≡ Value v → v < 10 ^ k → suc (length s) ≤ k
+needed : (b : ℕ) (s : List ℕ) (v k : ℕ) → (b ≡ 48 → ⊥) → digits_after 0 (b ∷ s) ≡ Some v → v < 10 ^ k → suc (length s) ≤ k
 needed b s v k h e l =
     let g = guarded (is_of Digit b) (digits_after (0 * 10 + (b - 48)) s) v e in
     let d = between 48 57 b g.0 in
@@ -34,16 +34,16 @@ needed b s v k h e l =
     let less : ¬ (k ≤ length s) = λ c. absurd (omega (arith, pow10_mono k (length s) c, at_least (0 * 10 + (b - 48)) s v g.1, one)) in
     omega arith
 
-justified : (s : List ℕ) (v : ℕ) → spaced s ≡ Value v → Justified s v
+justified : (s : List ℕ) (v : ℕ) → spaced s ≡ Some v → Justified s v
 justified [] v e = absurd (bad_value e)
 justified (b ∷ s) v e = go (eqb b 32) (eqb b 48) refl refl (justified s v) e
   where
-    lone : (r : List ℕ) → b ≡ 48 → lone_zero r ≡ Value v → Justified (b ∷ r) v
+    lone : (r : List ℕ) → b ≡ 48 → lone_zero r ≡ Some v → Justified (b ∷ r) v
     lone [] x e = let z : 0 ≡ v = cc in record { spaces = 0; digits = b ∷ []; bytes = refl; some = omega arith; says = rw (x, ← z); fewest = λ k p l. omega arith }
     lone (c ∷ r) x e = absurd (bad_value e)
 
-    go : (space naught : Bool) → eqb b 32 ≡ space → eqb b 48 ≡ naught → (spaced s ≡ Value v → Justified s v)
-        → cond space (spaced s) (cond naught (lone_zero s) (digits_after 0 (b ∷ s))) ≡ Value v → Justified (b ∷ s) v
+    go : (space naught : Bool) → eqb b 32 ≡ space → eqb b 48 ≡ naught → (spaced s ≡ Some v → Justified s v)
+        → cond space (spaced s) (cond naught (lone_zero s) (digits_after 0 (b ∷ s))) ≡ Some v → Justified (b ∷ s) v
     go true naught x y ih e =
         let j = ih e in
         record {
@@ -63,18 +63,18 @@ skip_spaces zero t = refl
 skip_spaces (suc n) t = skip_spaces n t
 
 -- digits that are no more than v needs
-fewest_read : (t : List ℕ) (v : ℕ) → 0 < length t → digits_after 0 t ≡ Value v → ((k : ℕ) → 0 < k → v < 10 ^ k → length t ≤ k) → spaced t ≡ Value v
+fewest_read : (t : List ℕ) (v : ℕ) → 0 < length t → digits_after 0 t ≡ Some v → ((k : ℕ) → 0 < k → v < 10 ^ k → length t ≤ k) → spaced t ≡ Some v
 fewest_read [] v p e f = absurd (omega arith)
 fewest_read (b ∷ s) v p e f = rw (ne_eqb b 32 (λ q. absurd (omega (arith, digit)))) (go (eqb b 48) refl)
   where
     digit : 48 ≤ b
     digit = (between 48 57 b (guarded (is_of Digit b) (digits_after (0 * 10 + (b - 48)) s) v e).0).0
 
-    lone : (r : List ℕ) → digits_after 0 r ≡ Value v → ((k : ℕ) → 0 < k → v < 10 ^ k → suc (length r) ≤ k) → lone_zero r ≡ Value v
+    lone : (r : List ℕ) → digits_after 0 r ≡ Some v → ((k : ℕ) → 0 < k → v < 10 ^ k → suc (length r) ≤ k) → lone_zero r ≡ Some v
     lone [] e f = e
     lone (c ∷ r) e f = absurd (omega (arith, f (length (c ∷ r)) (omega arith) (digits_write (c ∷ r) v e).1))
 
-    go : (t : Bool) → eqb b 48 ≡ t → cond t (lone_zero s) (digits_after 0 (b ∷ s)) ≡ Value v
+    go : (t : Bool) → eqb b 48 ≡ t → cond t (lone_zero s) (digits_after 0 (b ∷ s)) ≡ Some v
     go true x = lone s (rw (eqb-true b 48 x) at e) f
     go false x = e
 

@@ -4,7 +4,5 @@ pub mod Byte
 pub mod Verbatim
 -- Fields with a value: how they are read and written
 pub mod Number
--- What lies behind the spaces on the left
-pub mod Skipped
 -- Numbers, digits and prices are one to one, however long
 pub mod Widths

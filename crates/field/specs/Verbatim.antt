@@ -1,10 +1,8 @@
 -- The kinds of field that are kept as their bytes.
-use Rattle.std.specs.Prelude.{ℕ, Bool, true, false, not, ◌&&◌, ◌||◌, List, [], ◌∷◌, eqb}
+use Rattle.std.specs.Prelude.{ℕ, Bool, false, not, ◌&&◌, ◌||◌, List, [], ◌∷◌, eqb}
 use Rattle.run.specs.Runs.{all, member}
 use Rattle.field.specs.Byte.{is_of}
 use Rattle.field.specs.declared.Class.TheVariants.{Printable, Space, Digit, Hex}
-use Rattle.field.specs.declared.Bytes.{Bytes}
-use Rattle.field.specs.declared.Bytes.TheVariants.{Lawful, Unlawful}
 
 -- 01, The line: Text: bytes 20 to 7E hex, the first not a space
 abbrev pub is_text : List ℕ → Bool
@@ -32,8 +30,3 @@ abbrev pub is_code : List ℕ → List ℕ → Bool
 is_code codes [] = false
 is_code codes (b ∷ []) = member b codes
 is_code codes (b ∷ c ∷ s) = false
-
--- what a reader answers
-abbrev pub lawful_if : Bool → Bytes
-lawful_if true = Lawful
-lawful_if false = Unlawful

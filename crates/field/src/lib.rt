@@ -13,17 +13,3 @@ pub enum Class {
     Digit,
     Hex,
 }
-
-// The answer for a field that is kept as its bytes.
-#[derive(Clone, Copy)]
-pub enum Bytes {
-    Lawful,
-    Unlawful,
-}
-
-// The answer for a field that is read as a number.
-#[derive(Clone, Copy)]
-pub enum Number {
-    Value(u64),
-    Bad,
-}

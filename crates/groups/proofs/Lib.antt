@@ -4,7 +4,9 @@ pub mod Lists
 pub mod Numbers
 -- The groups read so far, and those behind them
 pub mod Reading
--- Numbers read one behind another
+-- Things read one behind another
+pub mod Behind
+-- Numbers read into lent ones
 pub mod ReadingAll
 -- What is written, and what is left to write
 pub mod Writing

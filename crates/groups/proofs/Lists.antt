@@ -43,11 +43,11 @@ module _ {A : Type 0} (read : List ℕ → Taken A) where
   split n s xs w e = go (read s) refl e
     where
       rest : (a : A) (u : ℕ) (t : Taken (List A)) → read s ≡ taken a u → list_in read n (drop u s) ≡ t → ahead a u t ≡ taken xs w → Split read n s xs w
-      rest a u none p q r = let z : ◌≡◌ {A = ℕ} 0 1 = cc in absurd (omega arith)
+      rest a u none p q r = cc
       rest a u (taken ys v) p q r = record { first = a; others = ys; u = u; v = v; one = p; more = q; all_read = cc; wide = cc }
 
       go : (t : Taken A) → read s ≡ t → behind t (λ a u. ahead a u (list_in read n (drop u s))) ≡ taken xs w → Split read n s xs w
-      go none p r = let z : ◌≡◌ {A = ℕ} 0 1 = cc in absurd (omega arith)
+      go none p r = cc
       go (taken a u) p r = rest a u (list_in read n (drop u s)) p refl r
 
   pub length_list_in : (n : ℕ) (s : List ℕ) (xs : List A) (w : ℕ) → list_in read n s ≡ taken xs w → length xs ≡ n

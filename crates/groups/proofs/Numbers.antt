@@ -71,9 +71,6 @@ number_most k v h m l = groups_most most_groups k v h l
 pub number_ten : (v : ℕ) → length (number_bytes v) ≤ 10
 number_ten v = groups_upto most_groups v
 
-pub number_some : (v : ℕ) → 1 ≤ length (number_bytes v)
-number_some v = groups_some 9 v
-
 -- ---- what is written is read back
 
 groups_back : (k v : ℕ) (s : List ℕ) → 0 < k → v < 128 ^ k → groups_in k (groups_of k v ++ s) ≡ taken v (length (groups_of k v))
@@ -106,8 +103,8 @@ record Written (k : ℕ) (s : List ℕ) (v w : ℕ) : Type 0 where
   same : groups_of k v ++ drop w s ≡ s
 
 groups_forth : (k : ℕ) (s : List ℕ) (v w : ℕ) → AreBytes s → groups_in k s ≡ taken v w → Written k s v w
-groups_forth zero s v w a e = let z : ◌≡◌ {A = ℕ} 0 1 = cc in absurd (omega arith)
-groups_forth (suc k) [] v w a e = let z : ◌≡◌ {A = ℕ} 0 1 = cc in absurd (omega arith)
+groups_forth zero s v w a e = cc
+groups_forth (suc k) [] v w a e = cc
 groups_forth (suc k) (b ∷ s) v w a e = go (ltb b 128) (groups_in k s) refl refl (groups_forth k s) e
   where
     byte : b < 256
@@ -117,7 +114,7 @@ groups_forth (suc k) (b ∷ s) v w a e = go (ltb b 128) (groups_in k s) refl ref
     bytes = (both (ltb b 256) (all (λ b. ltb b 256) s) a).1
 
     last : (x u : ℕ) (t : Bool) → 128 ≤ b → eqb x 0 ≡ t → Written k s x u → cond t none (taken (b - 128 + 128 * x) (1 + u)) ≡ taken v w → Written (suc k) (b ∷ s) v w
-    last x u true h z p r = let z : ◌≡◌ {A = ℕ} 0 1 = cc in absurd (omega arith)
+    last x u true h z p r = cc
     last x u false h z p r =
         let some = eqb-false x 0 z in
         let value : v ≡ b - 128 + 128 * x = cc in
@@ -134,22 +131,22 @@ groups_forth (suc k) (b ∷ s) v w a e = go (ltb b 128) (groups_in k s) refl ref
         let width : w ≡ 1 = cc in
         let groups : groups_of (suc k) v ≡ b ∷ [] = rw value (written_last k b (ltb-true b 128 q)) in
         record { wide = rw (groups, width); same = rw (groups, width) }
-    go false none q p more d = let z : ◌≡◌ {A = ℕ} 0 1 = cc in absurd (omega arith)
+    go false none q p more d = cc
     go false (taken x u) q p more d = last x u (eqb x 0) (ltb-false b 128 q) refl (more x u bytes p) d
 
 groups_inside : (k : ℕ) → Inside (groups_in k)
-groups_inside zero s v w e = let z : ◌≡◌ {A = ℕ} 0 1 = cc in absurd (omega arith)
-groups_inside (suc k) [] v w e = let z : ◌≡◌ {A = ℕ} 0 1 = cc in absurd (omega arith)
+groups_inside zero s v w e = cc
+groups_inside (suc k) [] v w e = cc
 groups_inside (suc k) (b ∷ s) v w e = go (ltb b 128) (groups_in k s) refl (groups_inside k s) e
   where
     last : (x u : ℕ) (t : Bool) → u ≤ length s → cond t none (taken (b - 128 + 128 * x) (1 + u)) ≡ taken v w → w ≤ suc (length s)
-    last x u true h r = let z : ◌≡◌ {A = ℕ} 0 1 = cc in absurd (omega arith)
+    last x u true h r = cc
     last x u false h r = let width : w ≡ 1 + u = cc in omega arith
 
     go : (t : Bool) (r : Taken ℕ) → groups_in k s ≡ r → ((v w : ℕ) → groups_in k s ≡ taken v w → w ≤ length s)
         → cond t (taken b 1) (above (b - 128) r) ≡ taken v w → w ≤ suc (length s)
     go true r p more d = let width : w ≡ 1 = cc in omega arith
-    go false none p more d = let z : ◌≡◌ {A = ℕ} 0 1 = cc in absurd (omega arith)
+    go false none p more d = cc
     go false (taken x u) p more d = last x u (eqb x 0) (more x u p) d
 
 -- a number that is read is one that groups say, and 64 bits hold it
@@ -158,10 +155,10 @@ number_groups s v w e = go (groups_in most_groups s) refl e
   where
     held : (x u : ℕ) (t : Bool) → in64 x ≡ t → groups_in most_groups s ≡ taken x u → cond t (taken x u) none ≡ taken v w → (groups_in most_groups s ≡ taken v w) × (in64 v ≡ true)
     held x u true q p d = let value : v ≡ x = cc in (p ∙ d, rw value q)
-    held x u false q p d = let z : ◌≡◌ {A = ℕ} 0 1 = cc in absurd (omega arith)
+    held x u false q p d = cc
 
     go : (t : Taken ℕ) → groups_in most_groups s ≡ t → if_in64 t ≡ taken v w → (groups_in most_groups s ≡ taken v w) × (in64 v ≡ true)
-    go none p d = let z : ◌≡◌ {A = ℕ} 0 1 = cc in absurd (omega arith)
+    go none p d = cc
     go (taken x u) p d = held x u (in64 x) refl p d
 
 pub number_inside : Inside number_in

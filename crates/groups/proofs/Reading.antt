@@ -5,15 +5,14 @@ use native.Mathlib.Omega.{arith}
 use mathlib.Core.Path.{◌≡◌, refl, sym, ap, ap₂, ◌∙◌}
 use mathlib.Core.Bool.{Bool, true, false, cond}
 use mathlib.Core.List.{List}
+use Rattle.std.specs.Prelude.{Option, Some, None}
 use borrow.Author.Tests.{ltb-true, ltb-false, lt-ltb, le-ltb, eqb-false, ne_eqb}
 use lib.Dec.{ltb, eqb}
 use lib.ListN.{length, get_or, drop, drop_of_length-le}
 use Rattle.run.proofs.Scan.{at_next}
 use Rattle.groups.proofs.Numbers.{group_last, group_more}
 use Rattle.groups.specs.Taken.{Taken, none, taken}
-use Rattle.groups.specs.Groups.{in64, above, groups_in, if_in64, number_in, number_at}
-use Rattle.groups.specs.declared.Number.{Number}
-use Rattle.groups.specs.declared.Number.TheVariants.{Value, Bad}
+use Rattle.groups.specs.Groups.{in64, above, groups_in, if_in64, taken_at}
 
 -- the value of j groups, and what those behind them say, each counting a unit
 abbrev lifted : ℕ → ℕ → ℕ → Taken ℕ → Taken ℕ
@@ -82,8 +81,8 @@ read_first s at low h l =
     }
 
 -- the answer for a low group with more behind it
-abbrev Answer : List ℕ → ℕ → ℕ → Number
-Answer s at low = number_at at (if_in64 (above low (groups_in 9 (drop (at + 1) s))))
+abbrev Answer : List ℕ → ℕ → ℕ → Option (ℕ × ℕ)
+Answer s at low = taken_at at (if_in64 (above low (groups_in 9 (drop (at + 1) s))))
 
 module _ {s : List ℕ} {at low value unit i : ℕ} (g : Reading s at low value unit i) where
   -- the groups left from a byte on, the last of them or not
@@ -107,9 +106,10 @@ module _ {s : List ℕ} {at low value unit i : ℕ} (g : Reading s at low value 
   pub group_room : (x : ℕ) → x < 128 → (unit ≡ 2 ^ 63 → ⊥) → (unit * x ≤ unit * 127) × (unit ≤ 2 ^ 56)
   group_room x h n = (mul-le-mul_left {m = x} {n = 127} unit (omega arith), unit_room n)
 
-  pub read_next : (x : ℕ) → x ≡ get_or s i 0 - 128 → i < length s → 128 ≤ get_or s i 0 → get_or s i 0 < 256 → (unit ≡ 2 ^ 63 → ⊥)
-      → Reading s at low (value + unit * x) (unit * 128) (i + 1)
-  read_next x e h l b n =
+  pub read_next : i < length s → 128 ≤ get_or s i 0 → get_or s i 0 < 256 → (unit ≡ 2 ^ 63 → ⊥)
+      → Reading s at low (value + unit * (get_or s i 0 - 128)) (unit * 128) (i + 1)
+  read_next h l b n =
+      let x = get_or s i 0 - 128 in
       let j = below_tenth (i - at) g.few (λ e. n (g.unit_is ∙ e)) in
       let next : i + 1 - at ≡ suc (i - at) = omega (arith, g.from) in
       let left : 10 - suc (i - at) ≡ 9 - (i - at) = omega arith in
@@ -122,67 +122,55 @@ module _ {s : List ℕ} {at low value unit i : ℕ} (g : Reading s at low value 
         small = omega (arith, g.small, group_room x (omega arith) n);
         same_end =
             g.same_end
-            ∙ rw (left_more h l, ← e, next, left)
+            ∙ rw (left_more h l, next, left)
             (rw one at (lifted_next value unit (i - at) x (groups_in (9 - (i - at)) (drop (i + 1) s))));
       }
 
   -- the last group answers
-  read_end : (t : Taken ℕ) → groups_in (10 - (i - at)) (drop i s) ≡ t → Answer s at low ≡ number_at at (if_in64 (lifted value unit (i - at) t))
-  read_end t e = ap (λ u. number_at at (if_in64 u)) (rw e at g.same_end)
+  read_end : (t : Taken ℕ) → groups_in (10 - (i - at)) (drop i s) ≡ t → Answer s at low ≡ taken_at at (if_in64 (lifted value unit (i - at) t))
+  read_end t e = ap (λ u. taken_at at (if_in64 u)) (rw e at g.same_end)
 
-  pub read_short : length s ≤ i → Bad ≡ Answer s at low
+  pub read_short : length s ≤ i → None ≡ Answer s at low
   read_short h =
       let k : 10 - (i - at) ≡ suc (9 - (i - at)) = omega (arith, g.few) in
       sym (read_end none (rw (k, drop_of_length-le s h)))
 
-  pub read_padded : i < length s → get_or s i 0 ≡ 0 → Bad ≡ Answer s at low
+  pub read_padded : i < length s → get_or s i 0 ≡ 0 → None ≡ Answer s at low
   read_padded h z = sym (read_end (taken 0 1) (left_last h (omega arith) ∙ rw z))
 
-  counted : (x v : ℕ) → i < length s → get_or s i 0 ≡ x → 0 < x → x < 128 → v ≡ value + unit * x → v < 2 ^ 64 → Value v (i + 1) ≡ Answer s at low
+  counted : (x v : ℕ) → i < length s → get_or s i 0 ≡ x → 0 < x → x < 128 → v ≡ value + unit * x → v < 2 ^ 64 → Some (v, i + 1) ≡ Answer s at low
   counted x v h e p l c m =
       let some : eqb x 0 ≡ false = ne_eqb x 0 (λ z. omega arith) in
       let held : in64 v ≡ true = lt-ltb v (2 ^ 64) m in
       let place : at + (i - at + 1) ≡ i + 1 = omega (arith, g.from) in
       sym (read_end (taken x 1) (left_last h (omega arith) ∙ rw e) ∙ rw (some, ← c, held, place))
 
-  pub read_last : (x : ℕ) → x ≡ get_or s i 0 → i < length s → 0 < x → x < 128 → (unit ≡ 2 ^ 63 → ⊥) → Value (value + unit * x) (i + 1) ≡ Answer s at low
-  read_last x e h p l n = counted x (value + unit * x) h (sym e) p l refl (omega (arith, g.small, group_room x l n))
+  pub read_last : i < length s → 0 < get_or s i 0 → get_or s i 0 < 128 → (unit ≡ 2 ^ 63 → ⊥) → Some (value + unit * get_or s i 0, i + 1) ≡ Answer s at low
+  read_last h p l n =
+      let x = get_or s i 0 in
+      counted x (value + unit * x) h refl p l refl (omega (arith, g.small, group_room x l n))
 
-  pub read_tenth : i < length s → get_or s i 0 ≡ 1 → unit ≡ 2 ^ 63 → Value (value + 2 ^ 63) (i + 1) ≡ Answer s at low
+  pub read_tenth : i < length s → get_or s i 0 ≡ 1 → unit ≡ 2 ^ 63 → Some (value + 2 ^ 63, i + 1) ≡ Answer s at low
   read_tenth h e n = counted 1 (value + 2 ^ 63) h e (omega arith) (omega arith) (rw n) (omega (arith, g.small))
 
   -- above 64 bits: too much in the tenth group, or a group behind it
-  too_much : i < length s → 1 < get_or s i 0 → get_or s i 0 < 128 → unit ≡ 2 ^ 63 → Bad ≡ Answer s at low
+  too_much : i < length s → 1 < get_or s i 0 → get_or s i 0 < 128 → unit ≡ 2 ^ 63 → None ≡ Answer s at low
   too_much h p l n =
       let b = get_or s i 0 in
       let some : eqb b 0 ≡ false = ne_eqb b 0 (λ z. omega arith) in
       let beyond : in64 (value + unit * b) ≡ false = le-ltb (value + unit * b) (2 ^ 64) (rw n (omega arith)) in
       sym (read_end (taken b 1) (left_last h l) ∙ rw (some, beyond))
 
-  too_long : i < length s → 128 ≤ get_or s i 0 → unit ≡ 2 ^ 63 → Bad ≡ Answer s at low
+  too_long : i < length s → 128 ≤ get_or s i 0 → unit ≡ 2 ^ 63 → None ≡ Answer s at low
   too_long h l n =
       let all-ten = tenth (i - at) (sym g.unit_is ∙ n) in
       let over : 9 - (i - at) ≡ 0 = omega arith in
       sym (read_end none (left_more h l ∙ rw over))
 
-  pub read_above : i < length s → (get_or s i 0 ≡ 1 → ⊥) → unit ≡ 2 ^ 63 → Bad ≡ Answer s at low
+  pub read_above : i < length s → (get_or s i 0 ≡ 1 → ⊥) → unit ≡ 2 ^ 63 → None ≡ Answer s at low
   read_above h m n = go (ltb (get_or s i 0) 128) (ltb 1 (get_or s i 0)) refl refl
     where
-      go : (p q : Bool) → ltb (get_or s i 0) 128 ≡ p → ltb 1 (get_or s i 0) ≡ q → Bad ≡ Answer s at low
+      go : (p q : Bool) → ltb (get_or s i 0) 128 ≡ p → ltb 1 (get_or s i 0) ≡ q → None ≡ Answer s at low
       go false q e f = too_long h (ltb-false (get_or s i 0) 128 e) n
       go true true e f = too_much h (ltb-true 1 (get_or s i 0) f) (ltb-true (get_or s i 0) 128 e) n
       go true false e f = let few = ltb-false 1 (get_or s i 0) f in read_padded h (omega (arith, m))
-
--- ---- the number at a place, by the byte there
-
-module _ (s : List ℕ) (at : ℕ) where
-  pub number_none : length s ≤ at → Bad ≡ number_at at (number_in (drop at s))
-  number_none h = rw (drop_of_length-le s h)
-
-  pub number_one : (x : ℕ) → x ≡ get_or s at 0 → at < length s → x < 128 → Value x (at + 1) ≡ number_at at (number_in (drop at s))
-  number_one x e h l =
-      let held : in64 x ≡ true = lt-ltb x (2 ^ 64) (omega arith) in
-      rw (at_next s at h, ← e, group_last 9 x (drop (at + 1) s) l, held)
-
-  pub number_more : (x : ℕ) → x ≡ get_or s at 0 - 128 → at < length s → 128 ≤ get_or s at 0 → Answer s at x ≡ number_at at (number_in (drop at s))
-  number_more x e h l = rw (at_next s at h, group_more 9 (get_or s at 0) (drop (at + 1) s) l, e)

@@ -4,11 +4,9 @@ use native.Mathlib.Nat.{pow-suc, sub_self}
 use native.Mathlib.Numerals.{add-one}
 use native.Mathlib.Omega.{arith}
 use mathlib.Core.Path.{◌≡◌, refl, ◌∙◌}
-use mathlib.Core.List.{List, [], ◌∷◌, ◌++◌}
-use lib.ListN.{length, get_or, drop, set, length-set, length-append, drop_of_length-le}
-use lib.Seq.{sets, length-sets}
-use Rattle.run.proofs.Scan.{at_next}
-use Rattle.run.proofs.Stores.{sets_append}
+use mathlib.Core.List.{List, [], ◌∷◌}
+use lib.ListN.{length, drop, set, length-set}
+use lib.Seq.{sets}
 use Rattle.groups.specs.Taken.{joined}
 use Rattle.groups.specs.Groups.{groups_of, number_bytes, Puts}
 use Rattle.groups.proofs.Numbers.{written_last, written_more, some_group, groups_some}
@@ -23,18 +21,6 @@ pub record Putting (before : List ℕ) (at v : ℕ) (out : List ℕ) (rest i : �
   pub ends : i + length (groups_of (10 - (i - at)) rest) ≡ at + length (number_bytes v)
   pub same_end : sets out i (groups_of (10 - (i - at)) rest) ≡ sets before at (number_bytes v)
 
-pub put_first : (before : List ℕ) (at v : ℕ) → v < 2 ^ 64 → Putting before at v before v at
-put_first before at v h =
-    let start : at - at ≡ 0 = sub_self at in
-    record {
-      from = omega arith;
-      few = omega arith;
-      small = rw start (omega arith);
-      long = refl;
-      ends = rw start;
-      same_end = rw start;
-    }
-
 module _ {before : List ℕ} {at v : ℕ} {out : List ℕ} {rest i : ℕ} (g : Putting before at v out rest i) where
   -- one group is left, or it and others
   left : 10 - (i - at) ≡ suc (9 - (i - at))
@@ -45,13 +31,6 @@ module _ {before : List ℕ} {at v : ℕ} {out : List ℕ} {rest i : ℕ} (g : P
 
   left_more : 128 ≤ rest → groups_of (10 - (i - at)) rest ≡ (128 + rest % 128) ∷ groups_of (9 - (i - at)) (rest / 128)
   left_more h = rw left (written_more (9 - (i - at)) rest h)
-
-  -- there is room for a group more
-  pub put_room : at + length (number_bytes v) ≤ length before → i < length out
-  put_room h =
-      let some = groups_some (9 - (i - at)) rest in
-      let ends = rw left at g.ends in
-      omega (arith, g.long)
 
   pub put_next : 128 ≤ rest → Putting before at v (set out i (128 + rest % 128)) (rest / 128) (i + 1)
   put_next h =
@@ -78,36 +57,3 @@ pub record PuttingAll (before : List ℕ) (at : ℕ) (values out : List ℕ) (pl
   pub long : length out ≡ length before
   pub ends : place + length (joined number_bytes (drop i values)) ≡ at + length (joined number_bytes values)
   pub same_end : sets out place (joined number_bytes (drop i values)) ≡ sets before at (joined number_bytes values)
-
-pub put_all_first : (before : List ℕ) (at : ℕ) (values : List ℕ) → PuttingAll before at values before at 0
-put_all_first before at values = record { upto = omega arith; long = refl; ends = refl; same_end = refl }
-
-module _ {before : List ℕ} {at : ℕ} {values out : List ℕ} {place i : ℕ} (g : PuttingAll before at values out place i) where
-  number_here : i < length values → joined number_bytes (drop i values) ≡ number_bytes (get_or values i 0) ++ joined number_bytes (drop (i + 1) values)
-  number_here h = rw (at_next values i h)
-
-  -- where the next number ends
-  both_end : i < length values
-      → place + (length (number_bytes (get_or values i 0)) + length (joined number_bytes (drop (i + 1) values))) ≡ at + length (joined number_bytes values)
-  both_end h = rw (number_here h, length-append) at g.ends
-
-  pub put_all_room : i < length values → at + length (joined number_bytes values) ≤ length before
-      → place + length (number_bytes (get_or values i 0)) ≤ length out
-  put_all_room h m = omega (arith, both_end h, g.long)
-
-  pub put_all_next : (next : ℕ) (after : List ℕ) → i < length values → Puts (number_bytes (get_or values i 0)) place out next after
-      → PuttingAll before at values after next (i + 1)
-  put_all_next next after h p =
-      let here = number_bytes (get_or values i 0) in
-      let others = joined number_bytes (drop (i + 1) values) in
-      record {
-        upto = omega arith;
-        long = rw (p.stored, length-sets out place here) g.long;
-        ends = omega (arith, both_end h, p.next);
-        same_end = rw (p.stored, p.next, sets_append out place (length here) here others refl, ← (number_here h)) g.same_end;
-      }
-
-  pub put_all_end : length values ≤ i → Puts (joined number_bytes values) at before place out
-  put_all_end h =
-      let none_left : joined number_bytes (drop i values) ≡ [] = rw (drop_of_length-le values h) in
-      record { stored = rw none_left at g.same_end; next = let e = rw none_left at g.ends in omega arith }

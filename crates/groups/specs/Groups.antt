@@ -1,11 +1,7 @@
 -- 02, 2: "variable-length groups of seven bits, low group first, the top bit set on all but the last, and always the fewest groups".
-use Rattle.std.specs.Prelude.{ℕ, zero, suc, ◌+◌, ◌-◌, ◌*◌, ◌/◌, ◌%◌, ◌^◌, ◌≡◌, Bool, cond, List, [], ◌∷◌, ltb, eqb, length, drop}
+use Rattle.std.specs.Prelude.{ℕ, zero, suc, ◌+◌, ◌-◌, ◌*◌, ◌/◌, ◌%◌, ◌^◌, ◌≡◌, Bool, cond, Option, Some, None, List, [], ◌∷◌, ltb, eqb, length, drop}
 use Rattle.std.proofs.lemmas.List.Edits.{sets}
 use Rattle.groups.specs.Taken.{Taken, none, taken, list_in}
-use Rattle.groups.specs.declared.End.{End}
-use Rattle.groups.specs.declared.End.TheVariants.{At, Nowhere}
-use Rattle.groups.specs.declared.Number.{Number}
-use Rattle.groups.specs.declared.Number.TheVariants.{Value, Bad}
 
 -- the most groups of a number that 64 bits hold
 abbrev pub most_groups : ℕ
@@ -45,17 +41,18 @@ number_in s = if_in64 (groups_in most_groups s)
 
 -- ---- what the functions answer, by what stands at a place
 
-abbrev pub number_at : ℕ → Taken ℕ → Number
-number_at at none = Bad
-number_at at (taken v w) = Value v (at + w)
+-- what is taken there, and the place behind it
+abbrev pub taken_at : {A : Type 0} → ℕ → Taken A → Option (A × ℕ)
+taken_at at none = None
+taken_at at (taken a w) = Some (a, at + w)
 
 -- the place behind what is taken there
-abbrev pub end_at : {A : Type 0} → ℕ → Taken A → End
-end_at at none = Nowhere
-end_at at (taken a w) = At (at + w)
+abbrev pub end_at : {A : Type 0} → ℕ → Taken A → Option ℕ
+end_at at none = None
+end_at at (taken a w) = Some (at + w)
 
 -- as many numbers as are lent, read one behind another from a place on
-pub record ReadsAll (s : List ℕ) (at : ℕ) (before : List ℕ) (r : End) (after : List ℕ) : Type 0 where
+pub record ReadsAll (s : List ℕ) (at : ℕ) (before : List ℕ) (r : Option ℕ) (after : List ℕ) : Type 0 where
   pub said : r ≡ end_at at (list_in number_in (length before) (drop at s))
   pub room : length after ≡ length before
   pub values : (vs : List ℕ) (w : ℕ) → list_in number_in (length before) (drop at s) ≡ taken vs w → after ≡ vs

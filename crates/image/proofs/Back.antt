@@ -1,4 +1,5 @@
 -- A record that a line says comes back from its bytes: each of them has a meaning, and they say that record.
+use Rattle.std.proofs.Common.{None}
 use Prim.Native.Nat.{ℕ, zero, suc, ◌+◌, ◌/◌, ◌^◌, ◌≤◌, ◌<◌}
 use native.Mathlib.Nat.{pow-suc, zero-add}
 use native.Mathlib.Omega.{arith}
@@ -147,13 +148,13 @@ module _ (r : Record) (h : LawfulRecord r) where
 
   -- ---- every byte has a meaning
 
-  lawful_meant : unmeant image ≡ 0
-  lawful_meant = sym (all_meant image
+  lawful_meant : unmeant image ≡ None
+  lawful_meant = all_meant image
       (rw type_back (type_lawful r.event))
       (rw (type_back, liquidity_back) (no_trade_lem (λ t. t.liquidity) 32 refl r.event))
       price_even
       (even 120 (trade_of r.event).match_id (number_cell 6 refl) match_fits (rw (type_back, match_back) (no_trade_lem (λ t. t.match_id) 0 refl r.event)))
-      (even 129 (trade_of r.event).cross_id (number_cell 7 refl) cross_fits (rw (type_back, cross_back) (no_trade_lem (λ t. t.cross_id) 0 refl r.event))))
+      (even 129 (trade_of r.event).cross_id (number_cell 7 refl) cross_fits (rw (type_back, cross_back) (no_trade_lem (λ t. t.cross_id) 0 refl r.event)))
     where
       price_even : all is_zero (part image 118 2) ≡ true
       price_even = ap (all is_zero) (sym (part_part image 110 10 8 2 (omega arith)) ∙ ap (λ l. part l 8 2) (number_cell 5 refl)) ∙ high_bytes 8 10 r.price price_small

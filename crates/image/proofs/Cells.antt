@@ -16,7 +16,7 @@ use Rattle.run.proofs.Parts.{part_before, part_after, part_whole}
 use Rattle.cell.proofs.Laws.{length_le}
 use Rattle.layout.specs.Records.{trade_of}
 use Rattle.layout.specs.declared.Record.{Record}
-use Rattle.image.specs.Images.{ids_set, early_set, late_set, numbers_set}
+use Rattle.image.specs.Images.{numbers_set}
 
 pub record Cell : Type 0 where
   pub at : ℕ
@@ -46,7 +46,7 @@ put_all [] b = b
 put_all (c ∷ cs) b = put_all cs (put c b)
 
 pub numbers_are_cells : (r : Record) (b : List ℕ) → numbers_set r b ≡ put_all (cells r) b
-unfolding ids_set early_set late_set
+unfolding numbers_set
 numbers_are_cells r b = refl
 
 -- ---- within a length

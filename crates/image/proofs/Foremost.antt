@@ -1,5 +1,6 @@
 -- The field that stands in the way of writing is the first that does not stand. The law behind it: the first field that fails one of two tests is the lesser of
 -- the first that fails the one and the first that fails the other.
+use Rattle.std.proofs.Common.{Option, Some, None, unwrap_or}
 use Prim.Native.Nat.{ℕ, zero, suc, ◌≤◌, ◌<◌}
 use native.Mathlib.Omega.{arith}
 use mathlib.Core.Path.{◌≡◌, refl, sym, ap₂, ◌∙◌}
@@ -49,14 +50,15 @@ both_first p q n (suc k) h = go (p n) (q n) (both_first p q (suc n) k (omega ari
 
 -- ---- the fields of a record
 
-odd_first : (t : Bool) (n : ℕ) {x y : ℕ} → x ≡ y → cond (not t) x n ≡ cond t n y
-odd_first true n e = refl
-odd_first false n e = e
+odd_first : (t : Bool) (n : ℕ) (x : ℕ) (y : Option ℕ) → x ≡ unwrap_or y 0 → cond (not t) x n ≡ unwrap_or (cond t (Some n) y) 0
+odd_first true n x y e = refl
+odd_first false n x y e = e
 
-unmeant_first : (b : List ℕ) → first_of (λ n. not (odd b n)) 1 24 ≡ unmeant b
+unmeant_first : (b : List ℕ) → first_of (λ n. not (odd b n)) 1 24 ≡ unwrap_or (unmeant b) 0
 unfolding unmeant
 unmeant_first b =
-    odd_first (odd b 2) 2 (odd_first (odd b 6) 6 (odd_first (odd b 22) 22 (odd_first (odd b 23) 23 (odd_first (odd b 24) 24 refl))))
+    odd_first (odd b 2) 2 _ _
+    (odd_first (odd b 6) 6 _ _ (odd_first (odd b 22) 22 _ _ (odd_first (odd b 23) 23 _ _ (odd_first (odd b 24) 24 0 None refl))))
 
 unlawful_first : (r : Record) → first_of (holds r) 1 24 ≡ unlawful r
 unfolding unlawful

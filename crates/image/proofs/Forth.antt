@@ -105,10 +105,10 @@ module _ (b : List ℕ) (bytes : IsBytes b) (free : unwritable b ≡ 0) where
   whole = (writable b free).0
 
   pub lawful : LawfulRecord (record_in b)
-  lawful = (none_unlawful (record_in b)).0 (writable b free).1.1
+  lawful = (none_unlawful (record_in b)).0 (writable b free).2
 
   meanings : Meant b
-  meanings = meant b (writable b free).1.0
+  meanings = meant b (writable b free).1
 
   abbrev trade : Trade
   trade = record { liquidity = get_or b 15 0; match_id = le (part b 120 8); cross_id = le (part b 129 8) }

@@ -1,54 +1,10 @@
--- The first byte of a record without meaning: one law for each way out.
-use Prim.Native.Nat.{ℕ, ◌+◌, ◌<◌}
-use native.Mathlib.Omega.{arith}
-use mathlib.Core.Path.{◌≡◌, refl}
-use mathlib.Core.Bool.{Bool, true, false, cond, not, ◌&&◌, ◌||◌}
-use mathlib.Core.List.{List}
+-- What it says that no byte of a record is without meaning, and of one that is.
+use Rattle.std.proofs.Common.{ℕ, ◌≡◌, Option, Some, None, Bool, true, false, cond, not, List, ◌<◌, refl, arith}
 use borrow.Author.Tests.{not-false}
-use lib.Dec.{eqb}
 use lib.ListN.{get_or}
 use Rattle.run.specs.Runs.{part, all, is_zero, member}
-use Rattle.cell.specs.Cells.{le}
-use Rattle.layout.specs.Layout.{is_trade, types}
-use Rattle.image.specs.Images.{odd_id, odd_liquidity, unmeant}
-
-pub odd_liquidity_is : (b : List ℕ) (t : Bool) → t ≡ is_trade (get_or b 8 0) → (not t && not (eqb (get_or b 15 0) 32)) ≡ odd_liquidity b
-odd_liquidity_is b t e = rw e
-
-pub odd_id_is : (b : List ℕ) (at : ℕ) (t : Bool) (v : ℕ) → t ≡ is_trade (get_or b 8 0) → v ≡ le (part b at 8)
-    → (not (eqb (get_or b (at + 8) 0) 0) || not t && not (eqb v 0)) ≡ odd_id b at
-odd_id_is b at t v e q = rw (e, q)
-
-module _ (b : List ℕ) where
-  pub no_type : member (get_or b 8 0) types ≡ false → 2 ≡ unmeant b
-  unfolding unmeant
-  no_type e = rw e
-
-  module _ (m : member (get_or b 8 0) types ≡ true) where
-    pub odd_liquidity_lem : odd_liquidity b ≡ true → 6 ≡ unmeant b
-    unfolding unmeant
-    odd_liquidity_lem e = rw (m, e)
-
-    module _ (l : odd_liquidity b ≡ false) where
-      pub odd_price : all is_zero (part b 118 2) ≡ false → 22 ≡ unmeant b
-      unfolding unmeant
-      odd_price e = rw (m, l, e)
-
-      module _ (z : all is_zero (part b 118 2) ≡ true) where
-        pub odd_match : odd_id b 120 ≡ true → 23 ≡ unmeant b
-        unfolding unmeant
-        odd_match e = rw (m, l, z, e)
-
-        module _ (i : odd_id b 120 ≡ false) where
-          pub odd_cross : odd_id b 129 ≡ true → 24 ≡ unmeant b
-          unfolding unmeant
-          odd_cross e = rw (m, l, z, i, e)
-
-          pub all_meant : odd_id b 129 ≡ false → 0 ≡ unmeant b
-          unfolding unmeant
-          all_meant e = rw (m, l, z, i, e)
-
--- ---- no byte is without meaning
+use Rattle.layout.specs.Layout.{types}
+use Rattle.image.specs.Images.{odd, odd_id, odd_liquidity, unmeant}
 
 pub record Meant (b : List ℕ) : Type 0 where
   pub of_type : member (get_or b 8 0) types ≡ true
@@ -57,21 +13,38 @@ pub record Meant (b : List ℕ) : Type 0 where
   pub of_match : odd_id b 120 ≡ false
   pub of_cross : odd_id b 129 ≡ false
 
-passed : (t : Bool) (n : ℕ) {rest : ℕ} → 0 < n → cond t n rest ≡ 0 → (t ≡ false) × (rest ≡ 0)
-passed true n h e = absurd (omega arith)
-passed false n h e = (refl, e)
+pub all_meant : (b : List ℕ) → member (get_or b 8 0) types ≡ true → odd_liquidity b ≡ false → all is_zero (part b 118 2) ≡ true → odd_id b 120 ≡ false
+    → odd_id b 129 ≡ false → unmeant b ≡ None
+unfolding unmeant
+all_meant b t l p m c = rw (t, l, p, m, c)
 
-pub meant : (b : List ℕ) → unmeant b ≡ 0 → Meant b
+passed : (t : Bool) (n : ℕ) {rest : Option ℕ} → cond t (Some n) rest ≡ None → (t ≡ false) × (rest ≡ None)
+passed true n e = cc
+passed false n e = (refl, e)
+
+pub meant : (b : List ℕ) → unmeant b ≡ None → Meant b
 unfolding unmeant
 meant b e =
-    let a = passed (not (member (get_or b 8 0) types)) 2 (omega arith) e in
-    let l = passed (odd_liquidity b) 6 (omega arith) a.1 in
-    let p = passed (not (all is_zero (part b 118 2))) 22 (omega arith) l.1 in
-    let i = passed (odd_id b 120) 23 (omega arith) p.1 in
+    let a = passed (not (member (get_or b 8 0) types)) 2 e in
+    let l = passed (odd_liquidity b) 6 a.1 in
+    let p = passed (not (all is_zero (part b 118 2))) 22 l.1 in
+    let i = passed (odd_id b 120) 23 p.1 in
     record {
       of_type = not-false (member (get_or b 8 0) types) a.0;
       of_liquidity = l.0;
       of_price = not-false (all is_zero (part b 118 2)) p.0;
       of_match = i.0;
-      of_cross = (passed (odd_id b 129) 24 (omega arith) i.1).0;
+      of_cross = (passed (odd_id b 129) 24 i.1).0;
     }
+
+-- a field that has one is a field: its number is not 0
+numbered : (t : Bool) (n : ℕ) {rest : Option ℕ} → 0 < n → ((k : ℕ) → rest ≡ Some k → 0 < k) → (k : ℕ) → cond t (Some n) rest ≡ Some k → 0 < k
+numbered true n h f k e = let same : n ≡ k = cc in omega arith
+numbered false n h f k e = f k e
+
+pub odd_field : (b : List ℕ) (k : ℕ) → unmeant b ≡ Some k → 0 < k
+unfolding unmeant
+odd_field b =
+    numbered (odd b 2) 2 (omega arith)
+    (numbered (odd b 6) 6 (omega arith)
+    (numbered (odd b 22) 22 (omega arith) (numbered (odd b 23) 23 (omega arith) (numbered (odd b 24) 24 (omega arith) (λ k e. cc)))))

@@ -1,5 +1,5 @@
 -- docs/LAYOUT.md, A record: the bytes as which a record crosses to a host and back.
-use Rattle.std.specs.Prelude.{ℕ, ◌+◌, ◌≡◌, Bool, true, false, cond, not, ◌&&◌, ◌||◌, List, ltb, eqb, length, get_or, take}
+use Rattle.std.specs.Prelude.{ℕ, ◌+◌, ◌≡◌, Option, Some, None, unwrap_or, Bool, true, false, cond, not, ◌&&◌, ◌||◌, List, ltb, eqb, length, get_or, take}
 use Rattle.std.proofs.lemmas.List.Edits.{sets}
 use Rattle.run.specs.Runs.{part, all, is_zero, member}
 use Rattle.cell.specs.Cells.{le, le_bytes}
@@ -9,7 +9,6 @@ use Rattle.layout.specs.Line.{line_of, unlawful}
 use Rattle.layout.specs.Records.{trade_of, record_from}
 use Rattle.layout.specs.declared.Numbers.{Numbers}
 use Rattle.layout.specs.declared.Record.{Record}
-use Rattle.layout.specs.declared.Trade.{Trade}
 
 -- each is a byte, as in all that a host lends
 abbrev pub IsBytes : List ℕ → Type 0
@@ -44,9 +43,10 @@ odd b n =
     (cond (eqb n 6) (odd_liquidity b)
     (cond (eqb n 22) (not (all is_zero (part b 118 2))) (cond (eqb n 23) (odd_id b 120) (cond (eqb n 24) (odd_id b 129) false))))
 
--- the first field with a byte without meaning of 138 bytes, or 0
-unfoldable pub unmeant : List ℕ → ℕ
-unmeant b = cond (odd b 2) 2 (cond (odd b 6) 6 (cond (odd b 22) 22 (cond (odd b 23) 23 (cond (odd b 24) 24 0))))
+-- the first field with a byte without meaning of 138 bytes, or none
+unfoldable pub unmeant : List ℕ → Option ℕ
+unmeant b =
+    cond (odd b 2) (Some 2) (cond (odd b 6) (Some 6) (cond (odd b 22) (Some 22) (cond (odd b 23) (Some 23) (cond (odd b 24) (Some 24) None))))
 
 -- the record that the bytes say
 unfoldable pub record_in : List ℕ → Record
@@ -63,21 +63,15 @@ sooner m n = cond (eqb m 0) n (cond (eqb n 0) m (cond (ltb n m) n m))
 -- the field that stands in the way of writing, or 0: the first with a byte without meaning or a broken rule, which is the lesser (proofs/Foremost.antt).
 -- A record of another length says none.
 unfoldable pub unwritable : List ℕ → ℕ
-unwritable b = cond (eqb (length b) 138) (sooner (unmeant b) (unlawful (record_in b))) 24
+unwritable b = cond (eqb (length b) 138) (sooner (unwrap_or (unmeant b) 0) (unlawful (record_in b))) 24
 
--- the ids that the bytes hold: 0 where the type has none
-unfoldable pub ids_set : Trade → List ℕ → List ℕ
-ids_set t b = sets (sets b 120 (le_bytes 9 t.match_id)) 129 (le_bytes 9 t.cross_id)
-
-unfoldable pub early_set : Record → List ℕ → List ℕ
-early_set r b = sets (sets (sets b 0 (le_bytes 8 r.timestamp)) 86 (le_bytes 6 r.contracts)) 99 (le_bytes 2 r.date)
-
-unfoldable pub late_set : Record → List ℕ → List ℕ
-late_set r b = sets (sets (sets b 101 (le_bytes 2 r.year)) 104 (le_bytes 6 r.strike)) 110 (le_bytes 10 r.price)
-
--- each number put little end first in its place
-abbrev pub numbers_set : Record → List ℕ → List ℕ
-numbers_set r b = ids_set (trade_of r.event) (late_set r (early_set r b))
+-- each number put little end first in its place; an id is 0 where the type has none
+unfoldable pub numbers_set : Record → List ℕ → List ℕ
+numbers_set r b =
+    let trade = trade_of r.event in
+    let early = sets (sets (sets b 0 (le_bytes 8 r.timestamp)) 86 (le_bytes 6 r.contracts)) 99 (le_bytes 2 r.date) in
+    let late = sets (sets (sets early 101 (le_bytes 2 r.year)) 104 (le_bytes 6 r.strike)) 110 (le_bytes 10 r.price) in
+    sets (sets late 120 (le_bytes 9 trade.match_id)) 129 (le_bytes 9 trade.cross_id)
 
 -- the bytes of a record: those of its line without CR LF, but for its numbers
 unfoldable pub image_of : Record → List ℕ

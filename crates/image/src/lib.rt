@@ -5,34 +5,32 @@ ghost use Rattle.std.specs.Prelude.{◌+◌, ◌≤◌, ◌≡◌, length};
 ghost use Rattle.std.proofs.lemmas.List.Edits.{sets};
 ghost use Rattle.layout.specs.Line.{line, read};
 ghost use Rattle.refusal.specs.Answer.{value};
-ghost use Rattle.image.specs.Images.{early_set, ids_set, image_of, late_set, numbers_in, odd_id, odd_liquidity, record_in, unmeant as images_unmeant};
+ghost use Rattle.image.specs.Images.{image_of, numbers_in, numbers_set, odd_id, odd_liquidity, record_in, unmeant as images_unmeant};
 
-use layout::{Numbers, Record, Trade};
+use layout::{Numbers, Record};
 
 // As long as the fields of its line.
 pub const RECORD: usize = layout::FIELDS;
 
-// The field of the first byte without meaning, or 0.
-pub fn unmeant(b: &[u8]) -> u8
+// The field of the first byte without meaning, or none.
+#[tactic(auto, unfolding(crate::specs::Images::unmeant))]
+pub fn unmeant(b: &[u8]) -> Option<u8>
     requires { length b.now ≡ 138 }
     ensures { result ≡ images_unmeant b.now }
 {
     if !run::member(b[8], &layout::TYPES) {
-        return 2;
+        Some(2)
+    } else if odd_liquidity(b) {
+        Some(6)
+    } else if !run::zeros(b, 118, 2) {
+        Some(22)
+    } else if odd_id(b, 120) {
+        Some(23)
+    } else if odd_id(b, 129) {
+        Some(24)
+    } else {
+        None
     }
-    if odd_liquidity(b) {
-        return 6;
-    }
-    if !run::zeros(b, 118, 2) {
-        return 22;
-    }
-    if odd_id(b, 120) {
-        return 23;
-    }
-    if odd_id(b, 129) {
-        return 24;
-    }
-    0
 }
 
 fn odd_liquidity(b: &[u8]) -> bool
@@ -67,6 +65,7 @@ fn numbers(b: &[u8]) -> Numbers
 }
 
 // The bytes stand where they stand in a line, so what makes a line's record makes theirs.
+#[tactic(auto, unfolding(crate::specs::Images::record_in))]
 pub fn load(b: &[u8]) -> Record
     requires { length b.now ≡ 138 }
     ensures { result ≡ record_in b.now }
@@ -81,35 +80,21 @@ pub fn store(r: Record, piece: &[u8], out: &mut [u8])
     ensures { out.new ≡ sets out.old 0 (image_of r) }
 {
     run::store(out, 0, &piece[0..layout::FIELDS]);
-    put_early(r, out);
-    put_late(r, out);
-    let event = r.event;
-    put_ids(record::trade_of(event), out);
+    put_numbers(r, out);
 }
 
-// The numbers go in three lots, since the prover reads only so many facts of one function.
-fn put_early(r: Record, out: &mut [u8])
+#[tactic(auto, unfolding(crate::specs::Images::numbers_set))]
+fn put_numbers(r: Record, out: &mut [u8])
     requires { 138 ≤ length out.old }
-    ensures { out.new ≡ early_set r out.old }
+    ensures { out.new ≡ numbers_set r out.old }
 {
+    let trade = record::trade_of(r.event);
     cell::put(out, 0, 8, r.timestamp);
     cell::put(out, 86, 6, r.contracts);
     cell::put(out, 99, 2, r.date);
-}
-
-fn put_late(r: Record, out: &mut [u8])
-    requires { 138 ≤ length out.old }
-    ensures { out.new ≡ late_set r out.old }
-{
     cell::put(out, 101, 2, r.year);
     cell::put(out, 104, 6, r.strike);
     cell::put(out, 110, 10, r.price);
-}
-
-fn put_ids(t: Trade, out: &mut [u8])
-    requires { 138 ≤ length out.old }
-    ensures { out.new ≡ ids_set t out.old }
-{
-    cell::put(out, 120, 9, t.match_id);
-    cell::put(out, 129, 9, t.cross_id);
+    cell::put(out, 120, 9, trade.match_id);
+    cell::put(out, 129, 9, trade.cross_id);
 }

@@ -1,11 +1,11 @@
 -- The walk down a chain: no record of its bucket is passed over, so the last hit is the earliest once the chain ends.
-use Rattle.std.proofs.Common.{◌≡◌, ℕ, zero, suc, ◌-◌, ◌<◌, ◌≤◌, Bool, true, false, cond, eqb, List, length, get_or, sym, refl, ap, ◌∙◌, le_refl, arith, eqb-true}
+use Rattle.std.proofs.Common.{◌≡◌, ℕ, zero, suc, ◌-◌, ◌<◌, ◌≤◌, Bool, true, false, cond, eqb, List, Option, Some, None, length, get_or, sym, refl, ap, ◌∙◌, add-one, le_refl, arith, eqb-true}
 use borrow.Author.Tests.{eqb-false}
 use Rattle.section.specs.Sections.{record_of}
 use Rattle.section.specs.declared.Section.{Section}
 use Rattle.run.specs.Found.{or_else}
 use Rattle.run.proofs.Found.{or_none}
-use Rattle.index.specs.Searches.{first_of, has_key, earliest}
+use Rattle.index.specs.Searches.{first_of, has_key, earliest, place_no}
 use Rattle.index.specs.Tags.{bucket_of}
 use Rattle.index.specs.Indexes.{latest, bucket_in, Indexed, Falls}
 use Rattle.run.proofs.Sameness.{same_true}
@@ -13,8 +13,9 @@ use Rattle.index.proofs.Firsts.{first_past}
 
 -- ---- one place or else another
 
-or_or : (a : ℕ) (t : Bool) (i best : ℕ) → or_else (or_else a (cond t (suc i) 0)) best ≡ or_else a (cond t (suc i) best)
-or_or zero true i best = refl
+or_or : (a : ℕ) (t : Bool) (i : ℕ) (best : Option ℕ)
+    → or_else (or_else a (cond t (suc i) 0)) (place_no best) ≡ or_else a (place_no (cond t (Some i) best))
+or_or zero true i best = sym (add-one i)
 or_or zero false i best = refl
 or_or (suc a) t i best = refl
 
@@ -56,17 +57,17 @@ module _ (f : ℕ → ℕ) where
 
 module _ (keys : Section) (s : List ℕ) (n : ℕ) (heads nexts key : List ℕ) where
   -- the earliest is among the first `at` records, or else it is the best so far; record at - 1 is in the key's bucket
-  pub record Walked (best at : ℕ) : Type 0 where
+  pub record Walked (best : Option ℕ) (at : ℕ) : Type 0 where
     pub within : at ≤ n
     pub here : 0 < at → bucket_in keys s (length heads) (at - 1) ≡ bucket_of (length heads) key
-    pub kept : earliest keys s n key ≡ or_else (earliest keys s at key) best
+    pub kept : earliest keys s n key ≡ or_else (earliest keys s at key) (place_no best)
 
   in_bucket : (i : ℕ) → has_key keys s key i ≡ true → bucket_in keys s (length heads) i ≡ bucket_of (length heads) key
   in_bucket i e = ap (bucket_of (length heads)) (same_true (record_of keys s i) key e)
 
   -- on to the latest of the first i records in the bucket
-  to_latest : (i best at : ℕ) → i ≤ n → at ≡ latest (bucket_in keys s (length heads)) i (bucket_of (length heads) key)
-      → earliest keys s n key ≡ or_else (earliest keys s i key) best → Walked best at
+  to_latest : (i : ℕ) (best : Option ℕ) (at : ℕ) → i ≤ n → at ≡ latest (bucket_in keys s (length heads)) i (bucket_of (length heads) key)
+      → earliest keys s n key ≡ or_else (earliest keys s i key) (place_no best) → Walked best at
   to_latest i best at l e h =
       let f = bucket_in keys s (length heads) in
       let b = bucket_of (length heads) key in
@@ -78,29 +79,24 @@ module _ (keys : Section) (s : List ℕ) (n : ℕ) (heads nexts key : List ℕ) 
       }
 
   module _ (x : Indexed keys s n heads nexts) (b : ℕ) (q : b ≡ bucket_of (length heads) key) where
-    pub walk_first : b < length heads → Walked 0 (get_or heads b 0)
-    walk_first l = to_latest n 0 (get_or heads b 0) (le_refl n) (x.firsts b l ∙ rw q) (sym (or_none (earliest keys s n key)))
+    pub walk_first : b < length heads → Walked None (get_or heads b 0)
+    walk_first l = to_latest n None (get_or heads b 0) (le_refl n) (x.firsts b l ∙ rw q) (sym (or_none (earliest keys s n key)))
 
-    pub walk_next : {best at : ℕ} → Walked best at → 0 < at → {hit : Bool} → hit ≡ has_key keys s key (at - 1) → (t : Bool) → hit ≡ t
-        → Walked (cond t at best) (get_or nexts (at - 1) 0)
+    pub walk_next : {best : Option ℕ} {at : ℕ} → Walked best at → 0 < at → {hit : Bool} → hit ≡ has_key keys s key (at - 1) → (t : Bool) → hit ≡ t
+        → Walked (cond t (Some (at - 1)) best) (get_or nexts (at - 1) 0)
     walk_next {best} {at} w l asked t told =
         let e : has_key keys s key (at - 1) ≡ t = sym asked ∙ told in
         let back : at ≡ suc (at - 1) = omega arith in
         let less : at - 1 < n = omega (arith, w.within) in
-        to_latest (at - 1) (cond t at best) (get_or nexts (at - 1) 0) (omega arith) (x.chains (at - 1) less ∙ rw (w.here l))
-        (w.kept ∙ ap (λ i. or_else (earliest keys s i key) best) back
-        ∙ rw e (or_or (earliest keys s (at - 1) key) t (at - 1) best)
-        ∙ ap (λ i. or_else (earliest keys s (at - 1) key) (cond t i best)) (sym back))
+        to_latest (at - 1) (cond t (Some (at - 1)) best) (get_or nexts (at - 1) 0) (omega arith) (x.chains (at - 1) less ∙ rw (w.here l))
+        (w.kept ∙ ap (λ i. or_else (earliest keys s i key) (place_no best)) back ∙ rw e (or_or (earliest keys s (at - 1) key) t (at - 1) best))
 
     -- each record is looked at once at most
-    pub walk_falls : {best at : ℕ} → Walked best at → 0 < at → get_or nexts (at - 1) 0 < at
+    pub walk_falls : {best : Option ℕ} {at : ℕ} → Walked best at → 0 < at → get_or nexts (at - 1) 0 < at
     walk_falls {best} {at} w l =
         let f = bucket_in keys s (length heads) in
         let less : at - 1 < n = omega (arith, w.within) in
         omega (arith, x.chains (at - 1) less, latest_most f (at - 1) (f (at - 1)))
-
-  pub walk_end : {best at : ℕ} → Walked best at → at ≤ 0 → best ≡ earliest keys s n key
-  walk_end {best} {at} w l = let none : at ≡ 0 = omega arith in sym (w.kept ∙ rw none)
 
 -- ---- what a bucket leads to
 

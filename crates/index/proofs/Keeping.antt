@@ -5,10 +5,10 @@ use lib.Seq.{sets, length-sets}
 use Rattle.run.specs.Runs.{part}
 use Rattle.section.specs.Sections.{start_of, record_of, Inside, KeyOf}
 use Rattle.section.specs.declared.Section.{Section}
-use Rattle.section.proofs.Places.{key_in_record, holds_keys, holds_stored}
+use Rattle.section.proofs.Places.{key_in_record}
 use Rattle.section.proofs.Stores.{kept_front, kept_gap, kept_past, stored_here, stored_elsewhere}
 use Rattle.index.specs.Tags.{bucket_of}
-use Rattle.index.specs.Indexes.{latest, bucket_in, Indexed, Enters, Appends}
+use Rattle.index.specs.Indexes.{latest, bucket_in, Indexed, Appends}
 use Rattle.index.proofs.Chains.{latest_same}
 
 index_kept : {keys : Section} {s u : List ℕ} {n : ℕ} {heads nexts : List ℕ} → length s ≡ length u → ((i : ℕ) → i < n → record_of keys s i ≡ record_of keys u i)
@@ -30,10 +30,6 @@ module _ {keys : Section} {s : List ℕ} {n : ℕ} {heads nexts : List ℕ} (x :
   -- before the first key, as into a header
   pub index_front : (at : ℕ) → at + length xs ≤ keys.first → Indexed keys (sets s at xs) n heads nexts
   index_front at h = index_kept (sym (length-sets s at xs)) (λ i l. sym (kept_front keys s xs at h i)) x
-
-  -- between two keys, as into a record behind its key
-  pub index_gap : (at j : ℕ) → start_of keys j + keys.width ≤ at → at + length xs ≤ start_of keys (j + 1) → Indexed keys (sets s at xs) n heads nexts
-  index_gap at j h k = index_kept (sym (length-sets s at xs)) (λ i l. sym (kept_gap keys s xs at j h k i)) x
 
   -- behind them all, as into a section that follows
   pub index_past : (at : ℕ) → start_of keys n + keys.width ≤ at + keys.step → Indexed keys (sets s at xs) n heads nexts
@@ -57,12 +53,10 @@ module _ {records keys : Section} (key : KeyOf keys records) {s : List ℕ} {n :
           ∙ ap (λ r. part r (keys.first - records.first) keys.width) (stored_elsewhere records s b i j e a (eqb-false i j q))
           ∙ sym (key_in_record key s j)
 
--- `index::entry::append`: once record n is stored it may be entered
-pub append_enters : {records keys : Section} {s : List ℕ} {n : ℕ} {bytes heads nexts : List ℕ} → Indexed keys s n heads nexts
-    → Appends records keys s n bytes nexts → {t : List ℕ} → t ≡ sets s (start_of records n) bytes → Indexed keys t n heads nexts × Enters keys t n nexts
-append_enters {records} {keys} {s} {n} {bytes} x y e =
+-- `index::entry::append`: record n is stored behind all keys
+pub append_kept : {records keys : Section} {s : List ℕ} {n : ℕ} {bytes heads nexts : List ℕ} → Indexed keys s n heads nexts
+    → Appends records keys s n bytes nexts → {t : List ℕ} → t ≡ sets s (start_of records n) bytes → Indexed keys t n heads nexts
+append_kept {records} {keys} {s} {n} {bytes} x y e =
     let even : keys.step * n ≡ records.step * n = ap (λ k. k * n) y.keyed.steps in
-    let past : start_of keys n + keys.width ≤ start_of records n + keys.step = omega (arith, y.keyed.steps, y.keyed.upto, y.holds.apart) in (
-      rw e (index_past x bytes (start_of records n) past),
-      record { holds = rw e (holds_stored keys (holds_keys y.keyed y.holds) (start_of records n) bytes); room = y.room; small = y.small },
-    )
+    let past : start_of keys n + keys.width ≤ start_of records n + keys.step = omega (arith, y.keyed.steps, y.keyed.upto, y.holds.apart) in
+    rw e (index_past x bytes (start_of records n) past)

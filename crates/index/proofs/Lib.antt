@@ -4,14 +4,10 @@ pub mod Tagging
 pub mod Firsts
 -- A walk down a chain finds the earliest record
 pub mod Chains
--- The empty index, and one record more
+-- One record more
 pub mod Entering
 -- Stores that leave the index
 pub mod Keeping
--- Heads set to 0 one after another
-pub mod Clearing
--- The index built record by record
-pub mod Passing
 -- What a lookup and distinct keys mean, in words
 pub mod Meanings
 -- The earliest record with a key in the list of records

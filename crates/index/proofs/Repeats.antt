@@ -1,9 +1,11 @@
 -- The key of a record leads to that record exactly where no earlier one has it.
-use Rattle.std.proofs.Common.{◌≡◌, ℕ, zero, suc, ◌+◌, ◌<◌, Bool, true, ◌&&◌, eqb, List, sym, refl, ◌∙◌, add-one, arith, eq-eqb, ne_eqb}
+use Rattle.std.proofs.Common.{◌≡◌, ℕ, zero, suc, ◌+◌, ◌<◌, Bool, true, ◌&&◌, eqb, List, Option, Some, None, sym, refl, ◌∙◌, add-one, arith, eq-eqb, ne_eqb}
+use Rattle.std.proofs.Math.Dec.{eqb-zero-suc, eqb-suc-suc}
+use Rattle.std.specs.Option.{option_eq}
 use Rattle.run.proofs.Sameness.{same_self}
 use Rattle.section.specs.Sections.{record_of}
 use Rattle.section.specs.declared.Section.{Section}
-use Rattle.index.specs.Searches.{first_of, has_key, earliest, all_distinct}
+use Rattle.index.specs.Searches.{first_of, has_key, earliest, all_distinct, place_no}
 use Rattle.index.proofs.Firsts.{first_stays, first_hit}
 use Rattle.index.proofs.Meanings.{first_found}
 
@@ -20,7 +22,7 @@ pub own_earliest : (keys : Section) (s : List ℕ) (n i : ℕ) → i < n
     → eqb (earliest keys s n (record_of keys s i)) (i + 1) ≡ eqb (earliest keys s i (record_of keys s i)) 0
 own_earliest keys s n i l = first_own (has_key keys s (record_of keys s i)) n i l (same_self (record_of keys s i))
 
--- one record more, r being whether it is the earliest with its key
-pub distinct_next : (keys : Section) (s : List ℕ) (i : ℕ) {differ r : Bool} → differ ≡ all_distinct keys s i
-    → r ≡ eqb (earliest keys s i (record_of keys s i)) 0 → (differ && r) ≡ all_distinct keys s (i + 1)
-distinct_next keys s i e h = rw (e, h, add-one i)
+-- places are told apart as the numbers for them are
+pub place_alike : (p : Option ℕ) (i : ℕ) → option_eq eqb p (Some i) ≡ eqb (place_no p) (i + 1)
+place_alike None i = rw (add-one i) (sym (eqb-zero-suc i))
+place_alike (Some j) i = rw (add-one j, add-one i) (sym (eqb-suc-suc j i))

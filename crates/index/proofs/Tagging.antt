@@ -20,22 +20,6 @@ word_next s n j h g l e =
     let on : 4 * (j + 1) ≡ 4 * j + 4 = omega arith in
     rw (left, on, e, more_cut, ← drop-drop 4 (4 * j) s)
 
-pub words_end : (s : List ℕ) (n j h : ℕ) → n ≤ j → over_words (n - j) h (drop (4 * j) s) ≡ h
-words_end s n j h l = let none : n - j ≡ 0 = omega arith in rw none
-
-pub byte_next : (s : List ℕ) (i h g : ℕ) → i < length s → g ≡ more h (get_or s i 0) → over_bytes h (drop i s) ≡ over_bytes g (drop (i + 1) s)
-byte_next s i h g l e = rw (at_next s i l, e)
-
-pub bytes_end : (s : List ℕ) (i h : ℕ) → length s ≤ i → over_bytes h (drop i s) ≡ h
-bytes_end s i h l = rw (drop_of_length-le s l)
-
--- the bytes behind the words, as they are lent
-pub tag_so : (s : List ℕ) (h r : ℕ) → h ≡ over_words (length s / 4) 0 s → r ≡ over_bytes h (take (length s - 4 * (length s / 4)) (drop (4 * (length s / 4)) s)) → r ≡ tag_of s
-tag_so s h r e q =
-    let rest : take (length s - 4 * (length s / 4)) (drop (4 * (length s / 4)) s) ≡ drop (4 * (length s / 4)) s
-    = take_all (length s - 4 * (length s / 4)) (drop (4 * (length s / 4)) s) (rw length-drop (omega arith)) in
-    q ∙ rw (rest, e)
-
 pub bucket_by : (m h b : ℕ) (k : List ℕ) → h ≡ tag_of k → b ≡ h / (2 ^ 32 / m + 1) → b ≡ bucket_of m k
 unfolding bucket_of
 bucket_by m h b k e q = q ∙ ap (λ x. x / (2 ^ 32 / m + 1)) e

@@ -1,5 +1,5 @@
 -- 01, Orders: a lookup by key means the earliest order with it. 02, ticket 7: a trio twice.
-use Rattle.std.specs.Prelude.{ℕ, zero, suc, Bool, true, cond, ◌&&◌, List, ◌==◌}
+use Rattle.std.specs.Prelude.{ℕ, zero, suc, ◌+◌, Bool, true, cond, ◌&&◌, List, ◌==◌, Option, Some, None}
 use Rattle.run.specs.Runs.{same}
 use Rattle.run.specs.Found.{or_else}
 use Rattle.section.specs.Sections.{record_of}
@@ -17,6 +17,11 @@ first_of p (suc n) = or_else (first_of p n) (cond (p n) (suc n) 0)
 -- one more than the earliest of the first n records with the key, or 0
 abbrev pub earliest : Section → List ℕ → ℕ → List ℕ → ℕ
 earliest keys s n key = first_of (has_key keys s key) n
+
+-- where code found one: one more than its place, or 0
+abbrev pub place_no : Option ℕ → ℕ
+place_no (Some i) = i + 1
+place_no None = 0
 
 -- no two of the first n records have one key
 abbrev pub all_distinct : Section → List ℕ → ℕ → Bool

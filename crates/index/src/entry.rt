@@ -23,9 +23,7 @@ pub fn enter(t: &[u8], keys: Section, n: usize, heads: &mut [u16], nexts: &mut [
     requires enters { Enters keys t.now n nexts.old }
     ensures { Entered keys t.now n heads.old nexts.old heads.new nexts.new }
 {
-    let at = section::start(t, keys, n);
-    let end = at + keys.width;
-    let b = tag::bucket(&t[at..end], heads.len());
+    let b = tag::bucket(section::record(t, keys, n), heads.len());
     link(heads, nexts, n, b);
 }
 

@@ -10,8 +10,7 @@ mod scanning;
 mod tag;
 
 pub use building::build;
-pub use chain::{find, find_in};
-pub use differing::distinct;
+pub use chain::Index;
 pub use entry::{append, enter};
 pub use scanning::scan;
 pub use tag::bucket;

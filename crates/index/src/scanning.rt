@@ -1,22 +1,20 @@
 // Lookup by key with no index.
 ghost use Rattle.std.specs.Prelude.{◌≡◌, length};
 ghost use Rattle.section.specs.Sections.{Holds};
-ghost use Rattle.index.specs.Searches.{earliest};
+ghost use Rattle.index.specs.Searches.{earliest, place_no};
 
 use section::Section;
 
-// One more than the earliest of the first n records with the key, or 0.
-pub fn scan(t: &[u8], keys: Section, n: usize, key: &[u8]) -> usize
+// The earliest of the first n records with the key.
+pub fn scan(t: &[u8], keys: Section, n: usize, key: &[u8]) -> Option<usize>
     requires holds { Holds keys t.now n }
     requires key_len { length key.now ≡ keys.width }
-    ensures { result ≡ earliest keys t.now n key.now }
+    ensures { place_no result ≡ earliest keys t.now n key.now }
 {
-    let mut i = 0;
-    while i < n {
+    for i in 0..n {
         if section::same(t, keys, i, key) {
-            return i + 1;
+            return Some(i);
         }
-        i += 1;
     }
-    0
+    None
 }

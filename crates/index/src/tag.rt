@@ -33,10 +33,8 @@ fn over_words(key: &[u8], words: usize) -> u32
     ensures { result ≡ over_words words 0 key.now }
 {
     let mut h: u32 = 0;
-    let mut j = 0;
-    while j < words {
+    for j in 0..words {
         h = more(h, word(key, 4 * j));
-        j += 1;
     }
     h
 }
@@ -45,10 +43,8 @@ fn over_bytes(h: u32, rest: &[u8]) -> u32
     ensures { result ≡ over_bytes h rest.now }
 {
     let mut g = h;
-    let mut i = 0;
-    while i < rest.len() {
-        g = more(g, rest[i] as u32);
-        i += 1;
+    for b in rest {
+        g = more(g, *b as u32);
     }
     g
 }

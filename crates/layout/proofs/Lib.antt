@@ -18,3 +18,5 @@ pub mod Demand2
 pub mod Settled
 -- Each wrong reader or writer breaks demand 2, by a witness
 pub mod Refuted
+-- What code answers is known by what it says
+pub mod OneAnswer

@@ -2,6 +2,8 @@
 pub mod Layout
 -- Answers about fields that some lines leave blank
 pub mod ByType
+-- A field that keeps its rule, or the refusal for it
+pub mod Kept
 -- The 24 values of a line, joined and taken apart
 pub mod Records
 -- Reading a piece and writing a record, refusals 1 to 4

@@ -6,7 +6,7 @@ mod rules;
 pub use rules::{
     CAPACITIES, DENOMINATORS, FIELDS, FIRST_DATE, LAST_DATE, LAST_TIMESTAMP, LAST_YEAR,
     LEAST_CONTRACTS, LINE, MONTHS, MOST_CONTRACTS, MOST_ID, MOST_PRICE, MOST_STRIKE, POSITIONS,
-    REPLACED, SIDES, SOURCE, TYPES, id, is_replace, is_trade, lawful_strike, least_strike,
+    REPLACED, SIDES, SOURCE, TYPES, id, is_replace, is_trade, keep, lawful_strike, least_strike,
     liquidity, replaced, within,
 };
 
@@ -61,7 +61,7 @@ pub struct Record {
 }
 
 // The numbers of a line, as far as its fields were read, the rest 0; or those of the bytes that a host gives.
-#[derive(Clone, Copy)]
+#[derive(Clone, Copy, Default)]
 pub struct Numbers {
     pub timestamp: u64,
     pub contracts: u64,

@@ -4,8 +4,10 @@ ghost use Rattle.message.specs.Rule.{code, text, verbatim as rule_verbatim};
 ghost use Rattle.layout.specs.Layout.{is_trade, liquidities, least_strike};
 ghost use Rattle.layout.specs.Strikes.{lawful_strike};
 ghost use Rattle.layout.specs.ByType.{bytes_on, id_on};
+ghost use Rattle.layout.specs.Kept.{kept};
 
-use field::{Bytes, Number, digits, verbatim};
+use field::{digits, verbatim};
+use refusal::Refusal;
 
 // A line in bytes, CR LF included, and its fields alone.
 pub const LINE: usize = 140;
@@ -70,46 +72,43 @@ pub fn is_replace(t: u8) -> bool
     t == b'U'
 }
 
-pub fn liquidity(s: &[u8], trade: bool) -> Bytes
+pub fn liquidity(s: &[u8], trade: bool) -> bool
     ensures { result ≡ bytes_on trade (code liquidities) s.now }
 {
     if trade {
-        return verbatim::code(s, &LIQUIDITIES);
+        verbatim::code(s, &LIQUIDITIES)
+    } else {
+        verbatim::blank(s)
     }
-    verbatim::blank(s)
 }
 
-pub fn replaced(s: &[u8], replace: bool) -> Bytes
+pub fn replaced(s: &[u8], replace: bool) -> bool
     ensures { result ≡ bytes_on replace (rule_verbatim text) s.now }
 {
     if replace {
-        return verbatim::text(s);
+        verbatim::text(s)
+    } else {
+        verbatim::blank(s)
     }
-    verbatim::blank(s)
 }
 
 // An id may be any number that its bytes hold, so none is too large. Who does not ask for it then does not pay for it.
-pub fn id(s: &[u8], trade: bool) -> Number
+pub fn id(s: &[u8], trade: bool) -> Option<u64>
     requires { length s.now ≤ 9 }
     ensures { result ≡ id_on trade s.now }
 {
     if trade {
-        return digits::spaced(s);
+        digits::spaced(s)
+    } else {
+        verbatim::blank(s).then_some(0)
     }
-    let Bytes::Lawful = verbatim::blank(s) else {
-        return Number::Bad;
-    };
-    Number::Value(0)
 }
 
 // Under A to D the first of a strike's digits isn't 0; under E not all of them are.
 pub fn least_strike(denominator: u8) -> u64
     ensures { result ≡ least_strike denominator }
 {
-    if denominator == b'E' {
-        return 1;
-    }
-    100_000
+    if denominator == b'E' { 1 } else { 100_000 }
 }
 
 // A strike's six digits under a denominator.
@@ -117,4 +116,15 @@ pub fn lawful_strike(denominator: u8, digits: u64) -> bool
     ensures { result ≡ lawful_strike denominator digits }
 {
     within(digits, least_strike(denominator), MOST_STRIKE)
+}
+
+// A field that keeps its rule, or the refusal that names it.
+pub fn keep(lawful: bool, field: u8) -> Result<(), Refusal>
+    ensures { result ≡ kept lawful field }
+{
+    if lawful {
+        Ok(())
+    } else {
+        Err(Refusal::Field(field))
+    }
 }

@@ -1,15 +1,13 @@
 -- A strike's unit, and the form of a value under one code.
-use Prim.Native.Nat.{ℕ, ◌*◌, ◌/◌, ◌%◌, ◌≤◌, ◌<◌}
-use mathlib.Core.Path.{◌≡◌, ◌∙◌}
-use mathlib.Core.Bool.{Bool, true, false, cond, ◌&&◌}
+use Prim.Native.Nat.{ℕ, ◌*◌, ◌≤◌, ◌<◌}
+use mathlib.Core.Path.{◌≡◌}
+use mathlib.Core.Bool.{Bool, true, false, cond}
 use native.Mathlib.Nat.{mul-le-mul}
 use native.Mathlib.Omega.{arith}
 use lib.Dec.{eqb}
 use Rattle.field.proofs.Fill.{between}
-use Rattle.refusal.specs.Answer.{Answer, value}
 use Rattle.layout.specs.Layout.{least_strike}
-use Rattle.layout.specs.Strikes.{unit, lawful_strike, form_under}
-use Rattle.layout.specs.declared.Strike.{Strike}
+use Rattle.layout.specs.Strikes.{unit, lawful_strike}
 
 unit_bounds : (d : ℕ) → (0 < unit d) × (unit d ≤ 10000)
 unit_bounds d = go (eqb d 65) (eqb d 66) (eqb d 67) (eqb d 68)
@@ -28,13 +26,3 @@ pub value_most : (d n : ℕ) {u : ℕ} → u ≡ unit d → lawful_strike d n �
 value_most d n e l =
     let six : n ≤ 999999 = (between (least_strike d) 999999 n l).1 in
     rw e (mul-le-mul six (unit_bounds d).1)
-
-module _ (d v : ℕ) (other : Answer Strike) {u : ℕ} {b : Bool} (e : u ≡ unit d) (k : b ≡ lawful_strike d (v / u)) where
-  under : (eqb (v % unit d) 0 && lawful_strike d (v / unit d)) ≡ (eqb (v % u) 0 && b)
-  under = rw (k, e)
-
-  pub form_found : (eqb (v % u) 0 && b) ≡ true → value (record { denominator = d; digits = v / u }) ≡ form_under d v other
-  form_found t = rw (under ∙ t, e)
-
-  pub form_passed : (eqb (v % u) 0 && b) ≡ false → other ≡ form_under d v other
-  form_passed t = rw (under ∙ t)

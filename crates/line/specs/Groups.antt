@@ -1,128 +1,90 @@
--- What a group of fields, read by itself, makes of the reading of a line. What the entries promise is in specs/Promises.antt.
-use Rattle.std.specs.Prelude.{ℕ, ◌≡◌, List, [], ◌∷◌, get_or, take, drop}
-use Rattle.run.specs.Runs.{part}
+-- What a group of fields says, read by itself, and what all of them say. What the entries promise is in specs/Promises.antt.
+use Rattle.std.specs.Prelude.{ℕ, ◌-◌, ◌/◌, ◌%◌, cond, ◌&&◌, eqb, List, [], take, drop, Option, Some, None, Result, Ok, Err}
 use Rattle.refusal.specs.declared.Refusal.{Refusal}
 use Rattle.refusal.specs.declared.Refusal.TheVariants.{Field}
 use Rattle.message.specs.Fields.{Fields, breaks, say, read_fields}
-use Rattle.message.specs.Rule.{Value, num, run}
-use Rattle.layout.specs.Layout.{is_trade}
+use Rattle.message.specs.Rule.{Value}
+use Rattle.message.specs.Values.{num_at}
 use Rattle.layout.specs.Line.{layout_of}
-use Rattle.layout.specs.Records.{record_of, record_from}
+use Rattle.layout.specs.Records.{record_of}
+use Rattle.layout.specs.Strikes.{unit, lawful_strike}
 use Rattle.layout.specs.declared.Numbers.{Numbers}
-use Rattle.layout.specs.ByType.{id_value}
-use Rattle.line.specs.Promises.{blank_record}
-use Rattle.line.specs.declared.Group.{Group}
-use Rattle.line.specs.declared.Group.TheVariants.{Lawful, Refused as Group-as-Refused}
-use Rattle.line.specs.declared.Outcome.TheVariants.{Line, Refused}
-use Rattle.line.specs.declared.Reading.{Reading}
+use Rattle.layout.specs.declared.Strike.{Strike}
+use Rattle.line.specs.declared.Said.{Said}
+use Rattle.line.specs.declared.Said.TheVariants.{Line}
 
--- the 24 values of a lawful line, from its numbers and its bytes
-abbrev pub values_of : Numbers → List ℕ → List Value
-values_of n s =
-    num n.timestamp
-    ∷ run (part s 8 1)
-    ∷ run (part s 9 4)
-    ∷ run (part s 13 1)
-    ∷ run (part s 14 1)
-    ∷ run (part s 15 1)
-    ∷ run (part s 16 4)
-    ∷ run (part s 20 5)
-    ∷ run (part s 25 5)
-    ∷ run (part s 30 6)
-    ∷ run (part s 36 20)
-    ∷ run (part s 56 20)
-    ∷ run (part s 76 9)
-    ∷ run (part s 85 1)
-    ∷ num n.contracts
-    ∷ run (part s 92 6)
-    ∷ run (part s 98 1)
-    ∷ num n.date
-    ∷ num n.year
-    ∷ run (part s 103 1)
-    ∷ num n.strike
-    ∷ num n.price
-    ∷ id_value (is_trade (get_or s 8 0)) n.match_id (part s 120 9)
-    ∷ id_value (is_trade (get_or s 8 0)) n.cross_id (part s 129 9)
-    ∷ []
+-- what fields k + 1 to m of a line say
+abbrev pub group : ℕ → ℕ → List ℕ → Fields
+group k m s = read_fields (take (m - k) (drop k (layout_of s))) [] s
 
-abbrev pub refused_reading : Refusal → Reading
-refused_reading x = record { outcome = Refused x; line = blank_record }
+-- nothing, the numbers or the record that fields say, or the refusal for the first of them that breaks its rule
+abbrev pub none_by : Fields → Result (Unit {0}) Refusal
+none_by (breaks n) = Err (Field n)
+none_by (say vs) = Ok tt
 
--- the answer by what the fields say
-abbrev pub reading_of : Fields → Reading
-reading_of (breaks n) = refused_reading (Field n)
-reading_of (say vs) = record { outcome = Line; line = record_of vs }
+abbrev pub numbers_by : (List Value → Numbers) → Fields → Result Numbers Refusal
+numbers_by of (breaks n) = Err (Field n)
+numbers_by of (say vs) = Ok (of vs)
 
-abbrev pub no_numbers : Numbers
-no_numbers = record { timestamp = 0; contracts = 0; date = 0; year = 0; strike = 0; price = 0; match_id = 0; cross_id = 0 }
+abbrev pub line_by : Fields → Result Said Refusal
+line_by (breaks n) = Err (Field n)
+line_by (say vs) = Ok (Line (record_of vs))
 
--- what is read from field k + 1 on, behind k fields that said their values
-abbrev pub reading_from : ℕ → Numbers → List ℕ → Reading
-reading_from k n s = reading_of (read_fields (drop k (layout_of s)) (take k (values_of n s)) s)
+-- ---- the numbers of a group's own fields, the others 0; and those of all fields
 
--- ---- the numbers n of a line, with those that a group x of its fields says
+abbrev pub timestamp_of : List Value → Numbers
+timestamp_of vs = record { timestamp = num_at vs 0; contracts = 0; date = 0; year = 0; strike = 0; price = 0; match_id = 0; cross_id = 0 }
 
-abbrev pub with_timestamp : Numbers → Numbers → Numbers
-with_timestamp n x =
+abbrev pub contracts_of : List Value → Numbers
+contracts_of vs = record { timestamp = 0; contracts = num_at vs 2; date = 0; year = 0; strike = 0; price = 0; match_id = 0; cross_id = 0 }
+
+abbrev pub series_of : List Value → Numbers
+series_of vs =
+    record { timestamp = 0; contracts = 0; date = num_at vs 0; year = num_at vs 1; strike = num_at vs 3; price = num_at vs 4; match_id = 0; cross_id = 0 }
+
+abbrev pub ids_of : List Value → Numbers
+ids_of vs = record { timestamp = 0; contracts = 0; date = 0; year = 0; strike = 0; price = 0; match_id = num_at vs 0; cross_id = num_at vs 1 }
+
+abbrev pub all_of : List Value → Numbers
+all_of vs =
     record {
-      timestamp = x.timestamp;
-      contracts = n.contracts;
-      date = n.date;
-      year = n.year;
-      strike = n.strike;
-      price = n.price;
-      match_id = n.match_id;
-      cross_id = n.cross_id;
+      timestamp = num_at vs 0;
+      contracts = num_at vs 14;
+      date = num_at vs 17;
+      year = num_at vs 18;
+      strike = num_at vs 20;
+      price = num_at vs 21;
+      match_id = num_at vs 22;
+      cross_id = num_at vs 23;
     }
 
-abbrev pub with_contracts : Numbers → Numbers → Numbers
-with_contracts n x =
-    record {
-      timestamp = n.timestamp;
-      contracts = x.contracts;
-      date = n.date;
-      year = n.year;
-      strike = n.strike;
-      price = n.price;
-      match_id = n.match_id;
-      cross_id = n.cross_id;
-    }
+-- ---- what the groups say, put together
 
-abbrev pub with_series : Numbers → Numbers → Numbers
-with_series n x =
-    record {
-      timestamp = n.timestamp;
-      contracts = n.contracts;
-      date = x.date;
-      year = x.year;
-      strike = x.strike;
-      price = x.price;
-      match_id = n.match_id;
-      cross_id = n.cross_id;
-    }
+abbrev pub joined : (event : Result Numbers Refusal) (account : Result (Unit {0}) Refusal) (order price trade : Result Numbers Refusal) → Result Numbers Refusal
+joined (Err x) b c d e = Err x
+joined (Ok t) (Err x) c d e = Err x
+joined (Ok t) (Ok u) (Err x) d e = Err x
+joined (Ok t) (Ok u) (Ok v) (Err x) e = Err x
+joined (Ok t) (Ok u) (Ok v) (Ok w) (Err x) = Err x
+joined (Ok t) (Ok u) (Ok v) (Ok w) (Ok y) =
+    Ok
+    (record {
+      timestamp = t.timestamp;
+      contracts = v.contracts;
+      date = w.date;
+      year = w.year;
+      strike = w.strike;
+      price = w.price;
+      match_id = y.match_id;
+      cross_id = y.cross_id;
+    })
 
-abbrev pub with_ids : Numbers → Numbers → Numbers
-with_ids n x =
-    record {
-      timestamp = n.timestamp;
-      contracts = n.contracts;
-      date = n.date;
-      year = n.year;
-      strike = n.strike;
-      price = n.price;
-      match_id = x.match_id;
-      cross_id = x.cross_id;
-    }
+abbrev pub grouped : List ℕ → Result Numbers Refusal
+grouped s =
+    joined (numbers_by timestamp_of (group 0 6 s)) (none_by (group 6 12 s)) (numbers_by contracts_of (group 12 17 s))
+    (numbers_by series_of (group 17 22 s)) (numbers_by ids_of (group 22 24 s))
 
-abbrev pub with_none : Numbers → Numbers → Numbers
-with_none n x = n
+-- ---- the form under one code, if it is one
 
--- what fields k + 1 to m leave to those behind them, whatever the fields before them said
-abbrev pub Says : ℕ → ℕ → (Numbers → Numbers → Numbers) → List ℕ → Group → Type 0
-Says k m into s (Lawful x) = (n : Numbers) → reading_from m (into n x) s ≡ reading_from k n s
-Says k m into s (Group-as-Refused y) = (n : Numbers) → refused_reading y ≡ reading_from k n s
-
--- the reading that all groups together make
-abbrev pub reading_by : List ℕ → Group → Reading
-reading_by s (Lawful n) = record { outcome = Line; line = record_from n s }
-reading_by s (Group-as-Refused x) = refused_reading x
+abbrev pub form_of : ℕ → ℕ → Option Strike
+form_of d v = cond (eqb (v % unit d) 0 && lawful_strike d (v / unit d)) (Some (record { denominator = d; digits = v / unit d })) None

@@ -1,4 +1,4 @@
 -- Each entry's answer in the paper's numbers and values
 pub mod Promises
--- What a group of fields, read by itself, makes of the reading
+-- What groups of fields say, and all of them
 pub mod Groups

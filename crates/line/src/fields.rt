@@ -2,40 +2,37 @@
 ghost use Rattle.std.specs.Prelude.{◌≡◌, true, length};
 ghost use Rattle.run.specs.Runs.{same};
 ghost use Rattle.layout.specs.Line.{crlf, printable};
-ghost use Rattle.line.specs.Groups.{Says, no_numbers, reading_by, reading_from, refused_reading, with_contracts, with_ids, with_none, with_series, with_timestamp};
-ghost use Rattle.line.specs.Promises.{Read, blank_record};
+ghost use Rattle.line.specs.Groups.{group, numbers_by, timestamp_of, none_by, contracts_of, series_of, ids_of, grouped, line_by};
+ghost use Rattle.line.specs.Promises.{Read};
 
-use crate::{Group, Outcome, Reading};
-use field::{Bytes, Class, Number, digits, verbatim};
-use layout::{Event, Numbers, Record};
+use crate::Said;
+use field::{Class, digits, verbatim};
+use layout::{Numbers, keep};
 use refusal::Refusal;
 
 // A piece of any length and content. It is refused by the first rule that it breaks.
-pub fn read(piece: &[u8]) -> Reading
+pub fn read(piece: &[u8]) -> Result<Said, Refusal>
     ensures { Read piece.now result }
 {
     read_in(piece, false)
 }
 
 // The same for a piece whose fields may be known to be printable: those of a plain one are not looked through again.
-pub fn read_in(piece: &[u8], plain: bool) -> Reading
+pub fn read_in(piece: &[u8], plain: bool) -> Result<Said, Refusal>
     requires { plain ≡ true → printable piece.now ≡ true }
     ensures { Read piece.now result }
 {
     if is_crlf(piece) {
-        return Reading {
-            outcome: Outcome::EndOfDay,
-            line: blank_record(),
-        };
+        return Ok(Said::EndOfDay);
     }
     if piece.len() != layout::LINE {
-        return refused(Refusal::NoLine);
+        return Err(Refusal::NoLine);
     }
     if !is_crlf(&piece[layout::FIELDS..]) {
-        return refused(Refusal::NoLine);
+        return Err(Refusal::NoLine);
     }
     if !is_printable(piece, plain) {
-        return refused(Refusal::BadByte);
+        return Err(Refusal::BadByte);
     }
     by_fields(piece)
 }
@@ -43,10 +40,7 @@ pub fn read_in(piece: &[u8], plain: bool) -> Reading
 fn is_crlf(s: &[u8]) -> bool
     ensures { result ≡ same s.now crlf }
 {
-    if s.len() != 2 {
-        return false;
-    }
-    (s[0] == b'\r') & (s[1] == b'\n')
+    s.len() == 2 && (s[0] == b'\r') & (s[1] == b'\n')
 }
 
 fn is_printable(piece: &[u8], plain: bool) -> bool
@@ -54,252 +48,129 @@ fn is_printable(piece: &[u8], plain: bool) -> bool
     requires piece_value { plain ≡ true → printable piece.now ≡ true }
     ensures { result ≡ printable piece.now }
 {
-    if plain {
-        return true;
-    }
-    verbatim::all_of(&piece[0..layout::FIELDS], Class::Printable)
-}
-
-// What stands beside an outcome that is no line.
-fn blank_record() -> Record
-    ensures { result ≡ blank_record }
-{
-    Record {
-        timestamp: 0,
-        event: Event::Accepted,
-        firm: [32; 4],
-        capacity: 32,
-        position: 32,
-        account: [32; 4],
-        member: [32; 5],
-        clearing: [32; 5],
-        source: [32; 6],
-        token: [32; 20],
-        replaced: [32; 20],
-        reference: [32; 9],
-        side: 32,
-        contracts: 0,
-        root: [32; 6],
-        month: 32,
-        date: 0,
-        year: 0,
-        denominator: 32,
-        strike: 0,
-        price: 0,
-    }
-}
-
-fn refused(x: Refusal) -> Reading
-    ensures { result ≡ refused_reading x }
-{
-    Reading {
-        outcome: Outcome::Refused(x),
-        line: blank_record(),
-    }
+    plain || verbatim::all_of(&piece[0..layout::FIELDS], Class::Printable)
 }
 
 // The reading of a line by its fields.
-fn by_fields(s: &[u8]) -> Reading
+fn by_fields(s: &[u8]) -> Result<Said, Refusal>
     requires s_len { length s.now ≡ 140 }
     requires s_value { printable s.now ≡ true }
-    ensures { result ≡ reading_from 0 no_numbers s.now }
+    ensures { result ≡ line_by (group 0 24 s.now) }
 {
-    match numbers(s) {
-        Group::Lawful(n) => Reading {
-            outcome: Outcome::Line,
-            line: record::record_of(s, n),
-        },
-        Group::Refused(x) => refused(x),
-    }
+    let n = numbers(s)?;
+    Ok(Said::Line(record::record_of(s, n)))
 }
 
 // The numbers of all groups. Each group is asked before any answer is looked at: behind an early exit a call counts as rare, so
 // that it is not inlined and its answer goes through memory.
-fn numbers(s: &[u8]) -> Group
+fn numbers(s: &[u8]) -> Result<Numbers, Refusal>
     requires s_len { length s.now ≡ 140 }
     requires s_value { printable s.now ≡ true }
-    ensures { reading_by s.now result ≡ reading_from 0 no_numbers s.now }
+    ensures { result ≡ grouped s.now }
 {
     let event = event_fields(s);
     let account = account_fields(s);
     let order = order_fields(s);
     let price = price_fields(s);
     let trade = trade_fields(s);
-    let Group::Lawful(a) = event else {
-        return event;
-    };
-    let Group::Lawful(_) = account else {
-        return account;
-    };
-    let Group::Lawful(c) = order else {
-        return order;
-    };
-    let Group::Lawful(d) = price else {
-        return price;
-    };
-    let Group::Lawful(e) = trade else {
-        return trade;
-    };
-    Group::Lawful(Numbers {
+    let a = event?;
+    account?;
+    let c = order?;
+    let d = price?;
+    let e = trade?;
+    Ok(Numbers {
         timestamp: a.timestamp,
         contracts: c.contracts,
-        date: d.date,
-        year: d.year,
-        strike: d.strike,
-        price: d.price,
         match_id: e.match_id,
         cross_id: e.cross_id,
+        ..d
     })
 }
 
-fn no_numbers() -> Numbers
-    ensures { result ≡ no_numbers }
-{
-    Numbers {
-        timestamp: 0,
-        contracts: 0,
-        date: 0,
-        year: 0,
-        strike: 0,
-        price: 0,
-        match_id: 0,
-        cross_id: 0,
-    }
-}
-
 // Fields 1 to 6.
-fn event_fields(s: &[u8]) -> Group
+fn event_fields(s: &[u8]) -> Result<Numbers, Refusal>
     requires s_len { length s.now ≡ 140 }
     requires s_value { printable s.now ≡ true }
-    ensures { Says 0 6 with_timestamp s.now result }
+    ensures { result ≡ numbers_by timestamp_of (group 0 6 s.now) }
 {
-    let Number::Value(timestamp) = digits::number(&s[0..8], 0, layout::LAST_TIMESTAMP) else {
-        return Group::Refused(Refusal::Field(1));
-    };
-    let Bytes::Lawful = verbatim::code(&s[8..9], &layout::TYPES) else {
-        return Group::Refused(Refusal::Field(2));
-    };
-    let Bytes::Lawful = verbatim::text_in(&s[9..13]) else {
-        return Group::Refused(Refusal::Field(3));
-    };
-    let Bytes::Lawful = verbatim::code(&s[13..14], &layout::CAPACITIES) else {
-        return Group::Refused(Refusal::Field(4));
-    };
-    let Bytes::Lawful = verbatim::code(&s[14..15], &layout::POSITIONS) else {
-        return Group::Refused(Refusal::Field(5));
-    };
-    let Bytes::Lawful = layout::liquidity(&s[15..16], layout::is_trade(s[8])) else {
-        return Group::Refused(Refusal::Field(6));
-    };
-    let mut n = no_numbers();
-    n.timestamp = timestamp;
-    Group::Lawful(n)
+    let timestamp = digits::number(&s[0..8], 0, layout::LAST_TIMESTAMP).ok_or(Refusal::Field(1))?;
+    keep(verbatim::code(&s[8..9], &layout::TYPES), 2)?;
+    keep(verbatim::text_in(&s[9..13]), 3)?;
+    keep(verbatim::code(&s[13..14], &layout::CAPACITIES), 4)?;
+    keep(verbatim::code(&s[14..15], &layout::POSITIONS), 5)?;
+    keep(layout::liquidity(&s[15..16], layout::is_trade(s[8])), 6)?;
+    Ok(Numbers {
+        timestamp,
+        ..Numbers::default()
+    })
 }
 
 // Fields 7 to 12.
-fn account_fields(s: &[u8]) -> Group
+fn account_fields(s: &[u8]) -> Result<(), Refusal>
     requires s_len { length s.now ≡ 140 }
     requires s_value { printable s.now ≡ true }
-    ensures { Says 6 12 with_none s.now result }
+    ensures { result ≡ none_by (group 6 12 s.now) }
 {
-    let Bytes::Lawful = verbatim::text_or_blank_in(&s[16..20]) else {
-        return Group::Refused(Refusal::Field(7));
-    };
-    let Bytes::Lawful = verbatim::digits_or_blank(&s[20..25]) else {
-        return Group::Refused(Refusal::Field(8));
-    };
-    let Bytes::Lawful = verbatim::digits_or_blank(&s[25..30]) else {
-        return Group::Refused(Refusal::Field(9));
-    };
-    let Bytes::Lawful = verbatim::text_in(&s[30..36]) else {
-        return Group::Refused(Refusal::Field(10));
-    };
-    let Bytes::Lawful = verbatim::text_in(&s[36..56]) else {
-        return Group::Refused(Refusal::Field(11));
-    };
-    let Bytes::Lawful = layout::replaced(&s[56..76], layout::is_replace(s[8])) else {
-        return Group::Refused(Refusal::Field(12));
-    };
-    Group::Lawful(no_numbers())
+    keep(verbatim::text_or_blank_in(&s[16..20]), 7)?;
+    keep(verbatim::digits_or_blank(&s[20..25]), 8)?;
+    keep(verbatim::digits_or_blank(&s[25..30]), 9)?;
+    keep(verbatim::text_in(&s[30..36]), 10)?;
+    keep(verbatim::text_in(&s[36..56]), 11)?;
+    keep(layout::replaced(&s[56..76], layout::is_replace(s[8])), 12)?;
+    Ok(())
 }
 
 // Fields 13 to 17.
-fn order_fields(s: &[u8]) -> Group
+fn order_fields(s: &[u8]) -> Result<Numbers, Refusal>
     requires s_len { length s.now ≡ 140 }
     requires s_value { printable s.now ≡ true }
-    ensures { Says 12 17 with_contracts s.now result }
+    ensures { result ≡ numbers_by contracts_of (group 12 17 s.now) }
 {
-    let Bytes::Lawful = verbatim::hex(&s[76..85]) else {
-        return Group::Refused(Refusal::Field(13));
-    };
-    let Bytes::Lawful = verbatim::code(&s[85..86], &layout::SIDES) else {
-        return Group::Refused(Refusal::Field(14));
-    };
-    let Number::Value(contracts) = digits::number(
-        &s[86..92],
-        layout::LEAST_CONTRACTS,
-        layout::MOST_CONTRACTS,
-    ) else {
-        return Group::Refused(Refusal::Field(15));
-    };
-    let Bytes::Lawful = verbatim::text_in(&s[92..98]) else {
-        return Group::Refused(Refusal::Field(16));
-    };
-    let Bytes::Lawful = verbatim::code(&s[98..99], &layout::MONTHS) else {
-        return Group::Refused(Refusal::Field(17));
-    };
-    let mut n = no_numbers();
-    n.contracts = contracts;
-    Group::Lawful(n)
+    keep(verbatim::hex(&s[76..85]), 13)?;
+    keep(verbatim::code(&s[85..86], &layout::SIDES), 14)?;
+    let contracts = digits::number(&s[86..92], layout::LEAST_CONTRACTS, layout::MOST_CONTRACTS);
+    let contracts = contracts.ok_or(Refusal::Field(15))?;
+    keep(verbatim::text_in(&s[92..98]), 16)?;
+    keep(verbatim::code(&s[98..99], &layout::MONTHS), 17)?;
+    Ok(Numbers {
+        contracts,
+        ..Numbers::default()
+    })
 }
 
 // Fields 18 to 22: the date and year, the strike, the price.
-fn price_fields(s: &[u8]) -> Group
+fn price_fields(s: &[u8]) -> Result<Numbers, Refusal>
     requires { length s.now ≡ 140 }
-    ensures { Says 17 22 with_series s.now result }
+    ensures { result ≡ numbers_by series_of (group 17 22 s.now) }
 {
-    let Number::Value(date) = digits::exactly(&s[99..101], layout::FIRST_DATE, layout::LAST_DATE)
-    else {
-        return Group::Refused(Refusal::Field(18));
-    };
-    let Number::Value(year) = digits::exactly(&s[101..103], 0, layout::LAST_YEAR) else {
-        return Group::Refused(Refusal::Field(19));
-    };
-    let Bytes::Lawful = verbatim::code(&s[103..104], &layout::DENOMINATORS) else {
-        return Group::Refused(Refusal::Field(20));
-    };
-    let Number::Value(strike) = digits::exactly(
-        &s[104..110],
-        layout::least_strike(s[103]),
-        layout::MOST_STRIKE,
-    ) else {
-        return Group::Refused(Refusal::Field(21));
-    };
-    let Number::Value(price) = digits::price(&s[110..120]) else {
-        return Group::Refused(Refusal::Field(22));
-    };
-    let mut n = no_numbers();
-    n.date = date;
-    n.year = year;
-    n.strike = strike;
-    n.price = price;
-    Group::Lawful(n)
+    let date = digits::exactly(&s[99..101], layout::FIRST_DATE, layout::LAST_DATE);
+    let date = date.ok_or(Refusal::Field(18))?;
+    let year = digits::exactly(&s[101..103], 0, layout::LAST_YEAR).ok_or(Refusal::Field(19))?;
+    keep(verbatim::code(&s[103..104], &layout::DENOMINATORS), 20)?;
+    let least = layout::least_strike(s[103]);
+    let strike = digits::exactly(&s[104..110], least, layout::MOST_STRIKE);
+    let strike = strike.ok_or(Refusal::Field(21))?;
+    let price = digits::price(&s[110..120]).ok_or(Refusal::Field(22))?;
+    Ok(Numbers {
+        date,
+        year,
+        strike,
+        price,
+        ..Numbers::default()
+    })
 }
 
 // Fields 23 and 24.
-fn trade_fields(s: &[u8]) -> Group
+fn trade_fields(s: &[u8]) -> Result<Numbers, Refusal>
     requires { length s.now ≡ 140 }
-    ensures { Says 22 24 with_ids s.now result }
+    ensures { result ≡ numbers_by ids_of (group 22 24 s.now) }
 {
     let trade = layout::is_trade(s[8]);
-    let Number::Value(match_id) = layout::id(&s[120..129], trade) else {
-        return Group::Refused(Refusal::Field(23));
-    };
-    let Number::Value(cross_id) = layout::id(&s[129..138], trade) else {
-        return Group::Refused(Refusal::Field(24));
-    };
-    let mut n = no_numbers();
-    n.match_id = match_id;
-    n.cross_id = cross_id;
-    Group::Lawful(n)
+    let match_id = layout::id(&s[120..129], trade).ok_or(Refusal::Field(23))?;
+    let cross_id = layout::id(&s[129..138], trade).ok_or(Refusal::Field(24))?;
+    Ok(Numbers {
+        match_id,
+        cross_id,
+        ..Numbers::default()
+    })
 }

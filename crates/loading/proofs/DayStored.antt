@@ -6,6 +6,8 @@ use mathlib.Core.Bool.{Bool, true, false, false≢true}
 use mathlib.Core.List.{List, [], ◌∷◌}
 use lib.ListN.{length, drop, replicate, length-drop}
 use lib.Seq.{sets, length-sets}
+use Rattle.std.specs.Prelude.{Option, Some, None}
+use Rattle.std.proofs.lemmas.Option.{none-some, same_Some}
 use Rattle.refusal.specs.Answer.{Answer, value, refused}
 use Rattle.quote.specs.Quotes.{most_rows}
 use Rattle.day.specs.Damage.{undamaged}
@@ -20,8 +22,6 @@ use Rattle.table.proofs.Holding.{Holds}
 use Rattle.table.proofs.Limits.{limit_least, limit_length, limit_most, slots_inside}
 use Rattle.table.proofs.Making.{empty_holds}
 use Rattle.groups.specs.Taken.{taken, list_in}
-use Rattle.groups.specs.declared.End.{End}
-use Rattle.groups.specs.declared.End.TheVariants.{At, Nowhere}
 use Rattle.groups.proofs.Lists.{length_list_in, list_inside}
 use Rattle.saved.specs.Days.{day_in}
 use Rattle.saved.specs.Entries.{saved_order_in, saved_row_in}
@@ -30,15 +30,7 @@ use Rattle.saved.proofs.Savable.{order_inside}
 use Rattle.loading.specs.declared.Front.{Front}
 use Rattle.loading.specs.Loading.{LawfulFront, PutsAll, ReadsFront, StoresDay, is_day, marked_by, orders_appended, table_bytes}
 use Rattle.loading.proofs.Tables.{orders_held}
-use Rattle.loading.proofs.Whole.{nowhere_at, same_at, DayOf, day_of_lem, front_inside, orders_few}
-
--- ---- the mark
-
-pub unmarked : (over : Bool) (s : List ℕ) → over ≡ false → s ≡ marked_by over s
-unmarked over s e = rw e
-
-pub marked_now : (over : Bool) (s after : List ℕ) → over ≡ true → after ≡ sets s 4 (1 ∷ []) → after ≡ marked_by over s
-marked_now over s after e q = rw e q
+use Rattle.loading.proofs.Whole.{DayOf, day_of_lem, front_inside, orders_few}
 
 -- ---- a buffer that has a limit
 
@@ -63,13 +55,12 @@ pub record Given (s : List ℕ) (r : Front) : Type 0 where
   pub front : LawfulFront 512 s r
   pub sound : undamaged 512 table ≡ true
 
-pub given : (s : List ℕ) (r : Front) → ReadsFront 512 s r → is_day (day_in 512 s) ≡ true → Given s r
-given s r f d = go (day_in 512 s) refl r.found refl
+pub given : (s : List ℕ) (r : Front) → ReadsFront 512 s (Some r) → is_day (day_in 512 s) ≡ true → Given s r
+given s r f d = go (day_in 512 s) refl
   where
-    go : (a : Answer Table) → day_in 512 s ≡ a → (b : Bool) → r.found ≡ b → Given s r
-    go (value t) e true g = record { table = t; said = e; front = f.some g; sound = day_sound 512 s t e }
-    go a e false g = absurd (false≢true (sym (f.none g) ∙ d))
-    go (refused n k) e true g = absurd (false≢true (sym (ap is_day e) ∙ d))
+    go : (a : Answer Table) → day_in 512 s ≡ a → Given s r
+    go (value t) e = record { table = t; said = e; front = f.some r refl; sound = day_sound 512 s t e }
+    go (refused n k) e = absurd (false≢true (ap is_day (sym e) ∙ d))
 
 module _ {s : List ℕ} {r : Front} (g : Given s r) (before cleared : List ℕ) (h : 0 < limit_of (length before)) (z : cleared ≡ sets before 0 (replicate 8 0)) where
   d : DayOf g.front g.table
@@ -84,12 +75,12 @@ module _ {s : List ℕ} {r : Front} (g : Given s r) (before cleared : List ℕ) 
   pub orders_room : (r.next ≤ length s) × (count_in cleared + r.orders ≤ limit_of (length cleared))
   orders_room = (front_inside g.front, omega (arith, no_orders_held held, orders_few g.front, limit_one (length cleared) held.meant))
 
-  module _ (end : End) (ordered : List ℕ) (p : PutsAll appended r.next (list_in saved_order_in r.orders (drop r.next s)) cleared end ordered) where
-    ends : end ≡ At (r.next + d.width)
+  module _ (end : Option ℕ) (ordered : List ℕ) (p : PutsAll appended r.next (list_in saved_order_in r.orders (drop r.next s)) cleared end ordered) where
+    ends : end ≡ Some (r.next + d.width)
     ends = p.said ∙ rw d.orders
 
-    pub orders_there : end ≡ Nowhere → ⊥
-    orders_there e = nowhere_at (sym e ∙ ends)
+    pub orders_there : end ≡ None → ⊥
+    orders_there e = none-some (r.next + d.width) (sym e ∙ ends)
 
     ordered_so : ordered ≡ orders_appended g.table.orders cleared
     ordered_so = p.stored g.table.orders d.width d.orders
@@ -104,9 +95,9 @@ module _ {s : List ℕ} {r : Front} (g : Given s r) (before cleared : List ℕ) 
         rw ordered_so
         (orders_held g.table.orders cleared empty held (omega (arith, fits, limit)) (all_fit (length cleared) g.table (rw limit g.sound)))
 
-    module _ (at : ℕ) (a : end ≡ At at) where
+    module _ (at : ℕ) (a : end ≡ Some at) where
       at_is : at ≡ r.next + d.width
-      at_is = same_at (sym a ∙ ends)
+      at_is = same_Some at (r.next + d.width) (sym a ∙ ends)
 
       rows_at : list_in saved_row_in r.rows (drop at s) ≡ taken g.table.quotes d.rest_width
       rows_at = ap (λ n. list_in saved_row_in r.rows (drop n s)) at_is ∙ d.rows
@@ -121,7 +112,7 @@ module _ {s : List ℕ} {r : Front} (g : Given s r) (before cleared : List ℕ) 
             omega (arith, count, fits, no_rows_held ordered_held refl),
           )
 
-      module _ (end' : End) (rowed : List ℕ) (q : PutsAll row_appended at (list_in saved_row_in r.rows (drop at s)) ordered end' rowed) where
+      module _ (end' : Option ℕ) (rowed : List ℕ) (q : PutsAll row_appended at (list_in saved_row_in r.rows (drop at s)) ordered end' rowed) where
         pub mark_room : 8 ≤ length rowed
         mark_room = omega (arith, q.room, ordered_long, header_inside (length before) h)
 

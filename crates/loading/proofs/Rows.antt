@@ -8,24 +8,22 @@ use borrow.Author.Tests.{le-leb}
 use lib.Dec.{leb}
 use lib.ListN.{length, drop}
 use lib.Seq.{sets, length-sets}
+use Rattle.std.specs.Prelude.{Option, Some, None}
 use Rattle.quote.specs.Quotes.{most_rows, sound_row}
 use Rattle.quote.specs.Rows.{unlike, all_rows_sound}
 use Rattle.quote.specs.declared.QuoteRow.{QuoteRow}
 use Rattle.quote.proofs.Named.{row_number}
 use Rattle.groups.specs.Taken.{Taken, none, taken, ahead, behind, list_in}
-use Rattle.groups.specs.Groups.{end_at}
-use Rattle.groups.specs.declared.End.{End}
-use Rattle.groups.specs.declared.End.TheVariants.{At, Nowhere}
+use Rattle.groups.specs.Groups.{taken_at, end_at}
+use Rattle.groups.proofs.Behind.{ReadTo, read_first, read_next, read_stop, read_end, one_there}
 use Rattle.groups.proofs.Lists.{length_list_in}
 use Rattle.saved.specs.Entries.{saved_row_in}
 use Rattle.saved.proofs.Savable.{row_inside, row_sound}
 use Rattle.saved.proofs.Heads.{not_taken, same_taken}
-use Rattle.entry.specs.Reads.{Reads}
 use Rattle.quote_slot.specs.QuoteSlots.{row_at, row_bytes, rows_in, RowInside}
 use Rattle.quote_slot.proofs.Laws.{rows_append}
 use Rattle.quote_slot.proofs.Room.{row_fits}
 use Rattle.loading.specs.Loading.{ReadsRows, end_of_rows}
-use Rattle.loading.proofs.Reading.{ReadTo, taken_at, read_first, read_next, read_stop, read_end}
 
 -- i rows of n are read, and stand in scratch
 pub record Held (s : List ℕ) (at n : ℕ) (before scratch : List ℕ) (place i : ℕ) : Type 0 where
@@ -33,40 +31,26 @@ pub record Held (s : List ℕ) (at n : ℕ) (before scratch : List ℕ) (place i
   pub long : length scratch ≡ length before
   pub reading : ReadTo saved_row_in s at (rows_in 0 i scratch) place i
 
-pub none_held : (s : List ℕ) (at n : ℕ) (before : List ℕ) → at ≤ length s → Held s at n before before at 0
-none_held s at n before h = record { upto = omega arith; long = refl; reading = read_first saved_row_in s at h }
-
 module _ {s : List ℕ} {at n : ℕ} {before scratch : List ℕ} {place i : ℕ} (g : Held s at n before scratch place i) where
-  pub all_held : n ≤ i → ReadsRows s at n before (At place) scratch
-  all_held h =
-      let all_of : n ≡ i = omega (arith, g.upto) in
-      rw all_of
-      record {
-        said = sym (read_end saved_row_in g.reading);
-        room = g.long;
-        rows = λ ws w q. (same_taken (sym g.reading.so_far ∙ q)).0;
-      }
-
   module _ (h : i < n) where
     pub row_free : 49 * n ≤ length before → RowInside 0 i scratch
     row_free room = omega (arith, g.long)
 
-    module _ {w : QuoteRow} {end : End} (r : Reads place (saved_row_in (drop place s)) end w) where
-      pub no_row : end ≡ Nowhere → ReadsRows s at n before Nowhere scratch
-      no_row e =
-          let stop = read_stop saved_row_in g.reading r e n h in
-          record { said = rw stop; room = g.long; rows = λ ws u q. absurd (not_taken (sym stop ∙ q)) }
+    pub no_row : None ≡ taken_at place (saved_row_in (drop place s)) → ReadsRows s at n before None scratch
+    no_row e =
+        let stop = read_stop saved_row_in g.reading e n h in
+        record { said = rw stop; room = g.long; rows = λ ws u q. absurd (not_taken (sym stop ∙ q)) }
 
-      pub one_held : 49 * n ≤ length before → (next : ℕ) → end ≡ At next → {then : List ℕ} → then ≡ sets scratch (row_at 0 i) (row_bytes w)
-          → Held s at n before then next (i + 1)
-      one_held room next e q =
-          let p = taken_at (saved_row_in (drop place s)) next r e in
-          let fits = row_fits w (row_sound (drop place s) w p.w p.said) in
-          record {
-            upto = omega arith;
-            long = ap length q ∙ length-sets scratch (row_at 0 i) (row_bytes w) ∙ g.long;
-            reading = rw (q, rows_append 0 scratch i w fits (row_free room)) (read_next saved_row_in g.reading r next e row_inside);
-          }
+    pub one_held : {w : QuoteRow} {next : ℕ} → Some (w, next) ≡ taken_at place (saved_row_in (drop place s)) → 49 * n ≤ length before
+        → {then : List ℕ} → then ≡ sets scratch (row_at 0 i) (row_bytes w) → Held s at n before then next (i + 1)
+    one_held {w} {next} e room q =
+        let p = one_there saved_row_in g.reading e in
+        let fits = row_fits w (row_sound (drop place s) w p.w p.said) in
+        record {
+          upto = omega arith;
+          long = ap length q ∙ length-sets scratch (row_at 0 i) (row_bytes w) ∙ g.long;
+          reading = rw (q, rows_append 0 scratch i w fits (row_free room)) (read_next saved_row_in g.reading e row_inside);
+        }
 
 -- ---- all of them
 
@@ -85,17 +69,7 @@ rows_sound (suc n) s ws w e = go (saved_row_in s) refl e (rows_sound n)
     go none p e rest = absurd (not_taken e)
     go (taken a u) p e rest = more a u (list_in saved_row_in n (drop u s)) (row_sound s a u p) (rest (drop u s)) e
 
-module _ {s : List ℕ} {at n : ℕ} {before scratch : List ℕ} {end : End} (r : ReadsRows s at n before end scratch) where
-  -- two are alike
-  pub alike_stop : unlike (rows_in 0 n scratch) ≡ false → Nowhere ≡ end_of_rows at (list_in saved_row_in n (drop at s))
-  alike_stop f = go (list_in saved_row_in n (drop at s)) r.rows
-    where
-      go : (t : Taken (List QuoteRow)) → ((ws : List QuoteRow) (w : ℕ) → t ≡ taken ws w → rows_in 0 n scratch ≡ ws) → Nowhere ≡ end_of_rows at t
-      go none rows = refl
-      go (taken ws w) rows =
-          let alike : unlike ws ≡ false = rw (← (rows ws w refl)) f in
-          sym (rw (alike, and-false (leb (length ws) most_rows)))
-
+module _ {s : List ℕ} {at n : ℕ} {before scratch : List ℕ} {end : Option ℕ} (r : ReadsRows s at n before end scratch) where
   pub unlike_end : n ≤ 128 → unlike (rows_in 0 n scratch) ≡ true → end ≡ end_of_rows at (list_in saved_row_in n (drop at s))
   unlike_end few f = r.said ∙ go (list_in saved_row_in n (drop at s)) refl r.rows
     where

@@ -6,17 +6,17 @@ use mathlib.Core.Path.{◌≡◌, refl, sym, ap, ◌∙◌}
 use mathlib.Core.List.{List, [], ◌∷◌, ◌++◌}
 use lib.ListN.{length, drop}
 use lib.Seq.{sets, length-sets, get_or-set_same}
+use Rattle.std.specs.Prelude.{Option, Some, None}
 use Rattle.order.specs.declared.Order.{Order}
 use Rattle.quote.specs.Quotes.{most_rows}
 use Rattle.quote.specs.declared.QuoteRow.{QuoteRow}
 use Rattle.quote.proofs.Named.{row_number}
 use Rattle.groups.specs.Taken.{Taken, list_in}
-use Rattle.groups.specs.declared.End.{End}
-use Rattle.groups.specs.declared.End.TheVariants.{At, Nowhere}
+use Rattle.groups.specs.Groups.{taken_at}
+use Rattle.groups.proofs.Behind.{ReadTo, read_first, read_next, read_stop, read_end}
 use Rattle.groups.proofs.Lists.{Inside, length_list_in}
 use Rattle.saved.proofs.Heads.{not_taken, same_taken}
 use Rattle.saved.specs.Entries.{saved_order_in, saved_row_in}
-use Rattle.entry.specs.Reads.{Reads}
 use Rattle.slot.specs.Places.{SlotInside}
 use Rattle.quote_slot.specs.QuoteSlots.{row_at, row_bytes, RowInside}
 use Rattle.table.specs.Changes.{appended, row_appended}
@@ -25,7 +25,6 @@ use Rattle.table.proofs.Holding.{length_appended, count_appended}
 use Rattle.table.proofs.Limits.{slot_inside, slots_inside}
 use Rattle.table.proofs.RowHolding.{length_row_appended, row_inside}
 use Rattle.loading.specs.Loading.{put_all, orders_appended, rows_appended, PutsAll}
-use Rattle.loading.proofs.Reading.{ReadTo, read_first, read_next, read_stop, read_end}
 use Rattle.loading.proofs.Tables.{put_one_more}
 
 -- ---- anything
@@ -46,7 +45,7 @@ module _ {A : Type 0} (read : List ℕ → Taken A) (put : A → List ℕ → Li
     pub count : length g.those ≡ i
     count = length_list_in read i (drop at s) g.those (place - at) g.reading.so_far
 
-    pub all_stored : n ≤ i → PutsAll put at (list_in read n (drop at s)) before (At place) after
+    pub all_stored : n ≤ i → PutsAll put at (list_in read n (drop at s)) before (Some place) after
     all_stored h =
         let all_of : n ≡ i = omega (arith, g.upto) in
         rw all_of
@@ -56,20 +55,19 @@ module _ {A : Type 0} (read : List ℕ → Taken A) (put : A → List ℕ → Li
           stored = λ xs w q. g.stored ∙ ap (λ (ys : List A). put_all put ys before) (same_taken (sym g.reading.so_far ∙ q)).0;
         }
 
-    pub stopped : i < n → {a : A} {end : End} → Reads place (read (drop place s)) end a → end ≡ Nowhere
-        → PutsAll put at (list_in read n (drop at s)) before Nowhere after
-    stopped h r e =
-        let stop = read_stop read g.reading r e n h in
+    pub stopped : i < n → None ≡ taken_at place (read (drop place s)) → PutsAll put at (list_in read n (drop at s)) before None after
+    stopped h e =
+        let stop = read_stop read g.reading e n h in
         record { said = rw stop; room = g.long; stored = λ xs w q. absurd (not_taken (sym stop ∙ q)) }
 
-    pub one_stored : Inside read → ((a : A) (t : List ℕ) → length (put a t) ≡ length t) → i < n → {a : A} {end : End} → Reads place (read (drop place s)) end a → (next : ℕ) → end ≡ At next
+    pub one_stored : Inside read → ((a : A) (t : List ℕ) → length (put a t) ≡ length t) → i < n → {a : A} {next : ℕ} → Some (a, next) ≡ taken_at place (read (drop place s))
         → {then : List ℕ} → then ≡ put a after → Stored read put s at n before then next (i + 1)
-    one_stored inside keeps h {a} r next e q =
+    one_stored inside keeps h {a} e q =
         record {
           upto = omega arith;
           long = ap length q ∙ keeps a after ∙ g.long;
           those = g.those ++ (a ∷ []);
-          reading = read_next read g.reading r next e inside;
+          reading = read_next read g.reading e inside;
           stored = q ∙ ap (put a) g.stored ∙ sym (put_one_more put g.those a before);
         }
 

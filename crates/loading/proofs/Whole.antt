@@ -9,7 +9,9 @@ use borrow.Author.Tests.{leb-true}
 use lib.Dec.{leb, eqb}
 use lib.ListN.{length, get_or, drop, length-drop}
 use lib.Seq.{drop-drop}
+use Rattle.std.proofs.lemmas.Option.{same_Some}
 use Rattle.run.proofs.Tests.{both, same_test}
+use Rattle.std.specs.Prelude.{Option, Some, None}
 use Rattle.refusal.specs.Answer.{value, refused}
 use Rattle.layout.proofs.Forms.{no_value}
 use Rattle.order.specs.declared.Order.{Order}
@@ -19,53 +21,47 @@ use Rattle.day.specs.Damage.{orders_undamaged, quotes_undamaged}
 use Rattle.day.specs.Tables.{Table}
 use Rattle.groups.specs.Taken.{Taken, none, taken, behind, list_in}
 use Rattle.groups.specs.Groups.{ReadsAll, number_in, end_at}
-use Rattle.groups.specs.declared.End.{End}
-use Rattle.groups.specs.declared.End.TheVariants.{At, Nowhere}
 use Rattle.groups.proofs.Lists.{list_inside}
 use Rattle.groups.proofs.Numbers.{number_inside}
-use Rattle.saved.specs.Days.{day_of, day_in}
+use Rattle.saved.specs.Days.{front_lawful, day_of, day_in}
 use Rattle.saved.specs.Entries.{saved_order_in, saved_row_in}
 use Rattle.saved.proofs.Days.{same_value}
 use Rattle.saved.proofs.Savable.{order_inside}
 use Rattle.loading.specs.declared.Front.{Front}
 use Rattle.loading.specs.Loading.{end_of_orders, end_of_rows, is_day, front_said, LawfulFront, ReadsFront}
 
-pub nowhere_at : {a : ℕ} → Nowhere ≡ At a → ⊥
-nowhere_at e = let z : ◌≡◌ {A = ℕ} 0 1 = cc in omega arith
-
-pub same_at : {a b : ℕ} → At a ≡ At b → a ≡ b
-same_at e = cc
-
 -- ---- the front
 
 -- no numbers
-pub no_front : (s before after : List ℕ) (end : End) (r : Front) → ReadsAll s 0 before end after → length before ≡ 4 → end ≡ Nowhere → r.found ≡ false → ReadsFront 512 s r
+pub no_front : (s before after : List ℕ) → ReadsAll s 0 before None after → length before ≡ 4 → ReadsFront 512 s None
 unfolding day_in
-no_front s before after end r f four e g =
-    record { some = λ t. absurd (false≢true (sym g ∙ t)); none = λ t. rw (nothing (list_in number_in 4 s) (sym e ∙ f.said ∙ ap (λ n. end_at 0 (list_in number_in n s)) four)) }
+no_front s before after f four =
+    record { some = λ r e. cc; none = λ e. rw (nothing (list_in number_in 4 s) (f.said ∙ ap (λ n. end_at 0 (list_in number_in n s)) four)) }
   where
-    nothing : (t : Taken (List ℕ)) → Nowhere ≡ end_at 0 t → t ≡ none
+    nothing : (t : Taken (List ℕ)) → None ≡ end_at 0 t → t ≡ none
     nothing none h = refl
-    nothing (taken vs w) h = absurd (nowhere_at h)
+    nothing (taken vs w) h = cc
 
 -- numbers, those of a day or not
-pub front_read : (s before after : List ℕ) (end : End) (next : ℕ) (r : Front) → ReadsAll s 0 before end after → length before ≡ 4 → end ≡ At next → r ≡ front_said after next
+pub front_read : (s before after : List ℕ) (next : ℕ) (r : Option Front) → ReadsAll s 0 before (Some next) after → length before ≡ 4 → r ≡ front_said after next
     → ReadsFront 512 s r
 unfolding day_in
-front_read s before after end next r f four e g = go (list_in number_in (length before) s) refl (sym e ∙ f.said)
+front_read s before after next r f four g = go (list_in number_in (length before) s) refl f.said
   where
-    judged : (vs : List ℕ) (w : ℕ) → list_in number_in 4 s ≡ taken vs w → ReadsFront 512 s (front_said vs w)
-    judged vs w p =
+    judged : (vs : List ℕ) (w : ℕ) (t : Bool) → list_in number_in 4 s ≡ taken vs w → front_lawful 512 vs ≡ t → ReadsFront 512 s (front_said vs w)
+    judged vs w true p l =
         record {
-          some = λ l. record { values = vs; there = p; lawful = l; over = refl; orders = refl; rows = refl };
-          none = λ l. rw (p, l);
+          some = λ x e. let same : x ≡ record { over = eqb (get_or vs 1 0) 1; orders = get_or vs 2 0; rows = get_or vs 3 0; next = w } = sym (same_Some _ _ (rw l at e)) in
+              rw same (record { values = vs; there = p; lawful = l; over = refl; orders = refl; rows = refl });
+          none = λ e. let no = rw l at e in cc;
         }
+    judged vs w false p l = record { some = λ x e. let no = rw l at e in cc; none = λ e. rw (p, l) }
 
-    go : (t : Taken (List ℕ)) → list_in number_in (length before) s ≡ t → At next ≡ end_at 0 t → ReadsFront 512 s r
-    go none p h = absurd (nowhere_at (sym h))
+    go : (t : Taken (List ℕ)) → list_in number_in (length before) s ≡ t → Some next ≡ end_at 0 t → ReadsFront 512 s r
+    go none p h = cc
     go (taken vs w) p h =
-        let ends : next ≡ w = same_at h ∙ zero-add w in
-        rw (g, f.values vs w p, ends) (judged vs w (ap (λ n. list_in number_in n s) (sym four) ∙ p))
+        let ends : next ≡ w = same_Some next (0 + w) h ∙ zero-add w in
+        rw (g, f.values vs w p, ends) (judged vs w (front_lawful 512 vs) (ap (λ n. list_in number_in n s) (sym four) ∙ p) refl)
 
 -- ---- behind a lawful front
 
@@ -108,15 +104,15 @@ module _ {s : List ℕ} {r : Front} (front : LawfulFront 512 s r) where
       go none = refl
       go (taken ws v) = rw (e, and-false (eqb (u + v) (length rest)))
 
-  pub no_orders : end_of_orders 512 r.next (list_in saved_order_in r.orders rest) ≡ Nowhere → is_day (day_in 512 s) ≡ false
+  pub no_orders : end_of_orders 512 r.next (list_in saved_order_in r.orders rest) ≡ None → is_day (day_in 512 s) ≡ false
   no_orders e = ap is_day by_front ∙ go (list_in saved_order_in r.orders rest) e
     where
-      judged : (os : List Order) (u : ℕ) (b : Bool) → orders_undamaged 512 os ≡ b → cond b (At (r.next + u)) Nowhere ≡ Nowhere
+      judged : (os : List Order) (u : ℕ) (b : Bool) → orders_undamaged 512 os ≡ b → cond b (Some (r.next + u)) None ≡ None
           → is_day (day_of 512 (length rest) (rows_behind os u)) ≡ false
-      judged os u true g h = absurd (nowhere_at (sym h))
+      judged os u true g h = cc
       judged os u false g h = damaged_orders os u g
 
-      go : (x : Taken (List Order)) → end_of_orders 512 r.next x ≡ Nowhere → is_day (day_of 512 (length rest) (behind x rows_behind)) ≡ false
+      go : (x : Taken (List Order)) → end_of_orders 512 r.next x ≡ None → is_day (day_of 512 (length rest) (behind x rows_behind)) ≡ false
       go none h = refl
       go (taken os u) h = judged os u (orders_undamaged 512 os) refl h
 
@@ -128,16 +124,16 @@ module _ {s : List ℕ} {r : Front} (front : LawfulFront 512 s r) where
     pub sound : orders_undamaged 512 orders ≡ true
     pub ends : at ≡ r.next + width
 
-  pub orders_to : (at : ℕ) → end_of_orders 512 r.next (list_in saved_order_in r.orders rest) ≡ At at → OrdersTo at
+  pub orders_to : (at : ℕ) → end_of_orders 512 r.next (list_in saved_order_in r.orders rest) ≡ Some at → OrdersTo at
   orders_to at e = go (list_in saved_order_in r.orders rest) refl e
     where
       judged : (os : List Order) (u : ℕ) (b : Bool) → list_in saved_order_in r.orders rest ≡ taken os u → orders_undamaged 512 os ≡ b
-          → cond b (At (r.next + u)) Nowhere ≡ At at → OrdersTo at
-      judged os u true p g h = record { orders = os; width = u; there = p; sound = g; ends = sym (same_at h) }
-      judged os u false p g h = absurd (nowhere_at h)
+          → cond b (Some (r.next + u)) None ≡ Some at → OrdersTo at
+      judged os u true p g h = record { orders = os; width = u; there = p; sound = g; ends = cc }
+      judged os u false p g h = cc
 
-      go : (x : Taken (List Order)) → list_in saved_order_in r.orders rest ≡ x → end_of_orders 512 r.next x ≡ At at → OrdersTo at
-      go none p h = absurd (nowhere_at h)
+      go : (x : Taken (List Order)) → list_in saved_order_in r.orders rest ≡ x → end_of_orders 512 r.next x ≡ Some at → OrdersTo at
+      go none p h = cc
       go (taken os u) p h = judged os u (orders_undamaged 512 os) p refl h
 
   module _ {at : ℕ} (o : OrdersTo at) where
@@ -152,39 +148,39 @@ module _ {s : List ℕ} {r : Front} (front : LawfulFront 512 s r) where
     by_orders : day_in 512 s ≡ day_of 512 (length rest) (behind (list_in saved_row_in r.rows (drop at s)) (λ ws v. taken (made o.orders ws) (o.width + v)))
     by_orders = by_front ∙ rw (o.there, same_rest)
 
-    pub no_rows : end_of_rows at (list_in saved_row_in r.rows (drop at s)) ≡ Nowhere → is_day (day_in 512 s) ≡ false
+    pub no_rows : end_of_rows at (list_in saved_row_in r.rows (drop at s)) ≡ None → is_day (day_in 512 s) ≡ false
     no_rows e = ap is_day by_orders ∙ go (list_in saved_row_in r.rows (drop at s)) e
       where
-        judged : (ws : List QuoteRow) (v : ℕ) (b : Bool) → quotes_undamaged ws ≡ b → cond b (At (at + v)) Nowhere ≡ Nowhere
+        judged : (ws : List QuoteRow) (v : ℕ) (b : Bool) → quotes_undamaged ws ≡ b → cond b (Some (at + v)) None ≡ None
             → is_day (day_of 512 (length rest) (taken (made o.orders ws) (o.width + v))) ≡ false
-        judged ws v true g h = absurd (nowhere_at (sym h))
+        judged ws v true g h = cc
         judged ws v false g h = rw (g, and-false (orders_undamaged 512 o.orders), and-false (eqb (o.width + v) (length rest)))
 
-        go : (x : Taken (List QuoteRow)) → end_of_rows at x ≡ Nowhere
+        go : (x : Taken (List QuoteRow)) → end_of_rows at x ≡ None
             → is_day (day_of 512 (length rest) (behind x (λ ws v. taken (made o.orders ws) (o.width + v)))) ≡ false
         go none h = refl
         go (taken ws v) h = judged ws v (quotes_undamaged ws) refl h
 
     -- a day where nothing stands behind the last row
-    pub all_read : (end : ℕ) → end_of_rows at (list_in saved_row_in r.rows (drop at s)) ≡ At end → eqb end (length s) ≡ is_day (day_in 512 s)
+    pub all_read : (end : ℕ) → end_of_rows at (list_in saved_row_in r.rows (drop at s)) ≡ Some end → eqb end (length s) ≡ is_day (day_in 512 s)
     all_read end e = go (list_in saved_row_in r.rows (drop at s)) e ∙ sym (ap is_day by_orders)
       where
         whole : (b : Bool) (t : Table) → b ≡ is_day (cond b (value t) (refused 14 0))
         whole true t = refl
         whole false t = refl
 
-        judged : (ws : List QuoteRow) (v : ℕ) (b : Bool) → quotes_undamaged ws ≡ b → cond b (At (at + v)) Nowhere ≡ At end
+        judged : (ws : List QuoteRow) (v : ℕ) (b : Bool) → quotes_undamaged ws ≡ b → cond b (Some (at + v)) None ≡ Some end
             → eqb end (length s) ≡ is_day (day_of 512 (length rest) (taken (made o.orders ws) (o.width + v)))
-        judged ws v false g h = absurd (nowhere_at h)
+        judged ws v false g h = cc
         judged ws v true g h =
-            let ends = same_at h in
+            let ends : end ≡ at + v = cc in
             let left = length-drop r.next s in
             let same = same_test end (length s) (o.width + v) (length rest) (λ q. omega (arith, ends, o.ends, left, front_inside)) (λ q. omega (arith, ends, o.ends, left, front_inside)) in
             rw (o.sound, g, and-true (eqb (o.width + v) (length rest))) (same ∙ whole (eqb (o.width + v) (length rest)) (made o.orders ws))
 
-        go : (x : Taken (List QuoteRow)) → end_of_rows at x ≡ At end
+        go : (x : Taken (List QuoteRow)) → end_of_rows at x ≡ Some end
             → eqb end (length s) ≡ is_day (day_of 512 (length rest) (behind x (λ ws v. taken (made o.orders ws) (o.width + v))))
-        go none h = absurd (nowhere_at h)
+        go none h = cc
         go (taken ws v) h = judged ws v (quotes_undamaged ws) refl h
 
 -- ---- what a day says

@@ -10,7 +10,7 @@ ghost use Rattle.table.specs.Tables.{count_in, least_limit, limit_of, sound, tab
 ghost use Rattle.lookup.specs.Beside.{Beside, Bucket};
 
 use order::{Key, Order};
-use slot::{KEY, Place};
+use slot::KEY;
 use table::header;
 
 // Four buckets an order, so that few orders share one.
@@ -44,7 +44,7 @@ pub fn bucket(heads: &[u16], key: &[u8]) -> usize
 }
 
 // The earliest order with a key, its Source and then its Token, b being its bucket.
-pub fn find(t: &[u8], heads: &[u16], nexts: &[u16], b: usize, key: &[u8]) -> Place
+pub fn find(t: &[u8], heads: &[u16], nexts: &[u16], b: usize, key: &[u8]) -> Option<usize>
     requires t_value { sound t.now ≡ true }
     requires beside { Beside t.now heads.now nexts.now }
     requires key_len { length key.now ≡ 26 }
@@ -59,7 +59,7 @@ pub fn find(t: &[u8], heads: &[u16], nexts: &[u16], b: usize, key: &[u8]) -> Pla
 }
 
 // The same, for a caller that has a Key.
-pub fn find_key(t: &[u8], heads: &[u16], nexts: &[u16], k: Key) -> Place
+pub fn find_key(t: &[u8], heads: &[u16], nexts: &[u16], k: Key) -> Option<usize>
     requires t_value { sound t.now ≡ true }
     requires beside { Beside t.now heads.now nexts.now }
     ensures { place_no result ≡ place k (table_in t.now).orders }

@@ -2,6 +2,8 @@
 pub mod Rules
 -- Fields one behind another, of any number
 pub mod Fields
+-- What groups of fields say by themselves, and all together
+pub mod Groups
 -- A lawful value has one form, by its rule
 pub mod Shapes
 -- Which field fails soonest, and what that answer says

@@ -15,8 +15,7 @@ use Rattle.field.specs.Number.{spaced, digits_after, within, rest, filled}
 use Rattle.field.specs.Number.{price as read_price}
 use Rattle.field.specs.declared.Class.{Class}
 use Rattle.field.specs.declared.Class.TheVariants.{Printable, Space, Digit, Hex}
-use Rattle.field.specs.declared.Number.{Number}
-use Rattle.field.specs.declared.Number.TheVariants.{Value as Number-as-Value, Bad}
+use Rattle.std.specs.Prelude.{Option, Some, None}
 use Rattle.run.proofs.Tests.{both, either}
 use Rattle.run.proofs.All.{all_append, all_snoc, all_wider}
 use Rattle.field.proofs.Fill.{between, is_between}
@@ -29,12 +28,12 @@ broken_got e = let z : ◌≡◌ {A = ℕ} 0 1 = cc in omega arith
 
 -- ---- what a reader got
 
-got_number_lem : (n : Number) (v : Value) → got_number n ≡ got v → (u : ℕ) × (v ≡ num u) × (n ≡ Number-as-Value u)
-got_number_lem (Number-as-Value u) v e = (u, cc, refl)
-got_number_lem Bad v e = absurd (broken_got e)
+got_number_lem : (n : Option ℕ) (v : Value) → got_number n ≡ got v → (u : ℕ) × (v ≡ num u) × (n ≡ Some u)
+got_number_lem (Some u) v e = (u, cc, refl)
+got_number_lem None v e = absurd (broken_got e)
 
-got_within : (least most : ℕ) (n : Number) (v : Value) → got_number (within least most n) ≡ got v
-    → (u : ℕ) × (v ≡ num u) × (n ≡ Number-as-Value u) × ((leb least u && leb u most) ≡ true)
+got_within : (least most : ℕ) (n : Option ℕ) (v : Value) → got_number (within least most n) ≡ got v
+    → (u : ℕ) × (v ≡ num u) × (n ≡ Some u) × ((leb least u && leb u most) ≡ true)
 got_within least most n v e =
     let g = got_number_lem (within least most n) v e in
     let w = within_value least most n g.0 g.2 in

@@ -1,13 +1,11 @@
 -- One field by its rule: what its bytes say, when a value is lawful there, and how it is written.
-use Rattle.std.specs.Prelude.{ℕ, ◌^◌, Bool, true, false, ◌&&◌, List, leb, ltb, eqb, length}
+use Rattle.std.specs.Prelude.{ℕ, ◌^◌, Bool, true, false, ◌&&◌, List, leb, ltb, eqb, length, Option, Some, None}
 use Rattle.run.specs.Runs.{all}
 use Rattle.field.specs.Byte.{is_of}
 use Rattle.field.specs.Verbatim.{is_text, is_text_or_blank, is_blank, is_digits_or_blank, is_hex, is_code}
 use Rattle.field.specs.Number.{filled, price_text}
 use Rattle.field.specs.Number.{number as read_number, digits as read_digits, price as read_price}
 use Rattle.field.specs.declared.Class.TheVariants.{Printable}
-use Rattle.field.specs.declared.Number.{Number}
-use Rattle.field.specs.declared.Number.TheVariants.{Value as Number-as-Value, Bad}
 
 -- 01, The line: the kinds of field that are kept as their bytes
 pub data Kind : Type 0 where
@@ -40,9 +38,9 @@ abbrev pub is_got : Got → Bool
 is_got (got v) = true
 is_got broken = false
 
-abbrev pub got_number : Number → Got
-got_number (Number-as-Value v) = got (num v)
-got_number Bad = broken
+abbrev pub got_number : Option ℕ → Got
+got_number (Some v) = got (num v)
+got_number None = broken
 
 abbrev pub got_run : Bool → List ℕ → Got
 got_run true b = got (run b)

@@ -8,17 +8,17 @@ ghost use Rattle.order.specs.Names.{key_of, elder_key_of, series_of};
 mod sound;
 
 use layout::Record;
-pub use sound::{is_text, lawful_series, sound_order};
+pub use sound::{lawful_series, sound_order};
 
 // The six Source bytes and the twenty Token bytes.
-#[derive(Clone, Copy)]
+#[derive(Clone, Copy, PartialEq, Eq)]
 pub struct Key {
     pub source: [u8; 6],
     pub token: [u8; 20],
 }
 
 // Fields 16 to 21 of a line.
-#[derive(Clone, Copy)]
+#[derive(Clone, Copy, PartialEq, Eq)]
 pub struct Series {
     pub root: [u8; 6],
     pub month: u8,
@@ -28,8 +28,8 @@ pub struct Series {
     pub strike: u64,
 }
 
-// Where the contracts of an order went.
-#[derive(Clone, Copy)]
+// Where the contracts of an order went. The figures of a damaged table need not be sound, so the type says nothing of it.
+#[derive(Clone, Copy, Default)]
 pub struct Figures {
     pub size: u64,
     pub executed: u64,
@@ -57,11 +57,8 @@ impl Figures {
     {
         Figures {
             size: n,
-            executed: 0,
-            broken: 0,
-            cancelled: 0,
-            passed: 0,
             open: n,
+            ..Figures::default()
         }
     }
 
@@ -71,12 +68,9 @@ impl Figures {
         ensures { result ≡ executed_by self n }
     {
         Figures {
-            size: self.size,
             executed: self.executed + n,
-            broken: self.broken,
-            cancelled: self.cancelled,
-            passed: self.passed,
             open: self.open - n,
+            ..self
         }
     }
 
@@ -87,12 +81,8 @@ impl Figures {
         ensures { result ≡ broken_by self n }
     {
         Figures {
-            size: self.size,
-            executed: self.executed,
             broken: self.broken + n,
-            cancelled: self.cancelled,
-            passed: self.passed,
-            open: self.open,
+            ..self
         }
     }
 
@@ -102,12 +92,9 @@ impl Figures {
         ensures { result ≡ cancelled_by self n }
     {
         Figures {
-            size: self.size,
-            executed: self.executed,
-            broken: self.broken,
             cancelled: self.cancelled + n,
-            passed: self.passed,
             open: self.open - n,
+            ..self
         }
     }
 
@@ -117,12 +104,9 @@ impl Figures {
         ensures { result ≡ passed_on self }
     {
         Figures {
-            size: self.size,
-            executed: self.executed,
-            broken: self.broken,
-            cancelled: self.cancelled,
             passed: self.passed + self.open,
             open: 0,
+            ..self
         }
     }
 }
@@ -131,8 +115,7 @@ impl Figures {
 pub fn key_of(r: Record) -> Key
     ensures { result ≡ key_of r }
 {
-    let source = r.source;
-    let token = r.token;
+    let Record { source, token, .. } = r;
     Key { source, token }
 }
 
@@ -140,21 +123,35 @@ pub fn key_of(r: Record) -> Key
 pub fn elder_key_of(r: Record) -> Key
     ensures { result ≡ elder_key_of r }
 {
-    let source = r.source;
-    let token = r.replaced;
-    Key { source, token }
+    let Record {
+        source,
+        replaced,
+        ..
+    } = r;
+    Key {
+        source,
+        token: replaced,
+    }
 }
 
 pub fn series_of(r: Record) -> Series
     ensures { result ≡ series_of r }
 {
-    let root = r.root;
+    let Record {
+        root,
+        month,
+        date,
+        year,
+        denominator,
+        strike,
+        ..
+    } = r;
     Series {
         root,
-        month: r.month,
-        date: r.date,
-        year: r.year,
-        denominator: r.denominator,
-        strike: r.strike,
+        month,
+        date,
+        year,
+        denominator,
+        strike,
     }
 }

@@ -2,8 +2,8 @@
 use Prim.Native.Nat.{ℕ}
 use mathlib.Core.Path.{◌≡◌, sym, ◌∙◌}
 use mathlib.Core.List.{List}
+use Rattle.std.proofs.Common.{Option}
 use Rattle.piece.specs.Promises.{Nexts}
-use Rattle.piece.specs.declared.Ahead.{Ahead}
 
-pub next_determined : (text : List ℕ) (at : ℕ) (x y : Ahead) → Nexts text at x → Nexts text at y → x ≡ y
+pub next_determined : (text : List ℕ) (at : ℕ) (x y : Option ℕ) → Nexts text at x → Nexts text at y → x ≡ y
 next_determined text at x y p q = p.said ∙ sym q.said

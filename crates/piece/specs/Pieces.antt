@@ -1,7 +1,5 @@
 -- 01, The line: "a piece runs up to and including the next LF, or to the end of the text".
-use Rattle.std.specs.Prelude.{ℕ, ◌+◌, cond, List, [], ◌∷◌, ltb, eqb, length, drop}
-use Rattle.piece.specs.declared.Ahead.{Ahead}
-use Rattle.piece.specs.declared.Ahead.TheVariants.{Piece, Nothing}
+use Rattle.std.specs.Prelude.{ℕ, ◌+◌, cond, Option, Some, None, List, [], ◌∷◌, ltb, eqb, length, drop}
 
 -- a byte in front of the first piece
 abbrev pub join_first : ℕ → List (List ℕ) → List (List ℕ)
@@ -19,5 +17,5 @@ piece_length [] = 0
 piece_length (b ∷ s) = cond (eqb b 10) 1 (piece_length s + 1)
 
 -- "At or past the end it answers that nothing is left." A piece is said by the place behind it
-abbrev pub next_piece : List ℕ → ℕ → Ahead
-next_piece s at = cond (ltb at (length s)) (Piece (at + piece_length (drop at s))) Nothing
+abbrev pub next_piece : List ℕ → ℕ → Option ℕ
+next_piece s at = cond (ltb at (length s)) (Some (at + piece_length (drop at s))) None

@@ -1,11 +1,9 @@
 -- The promise of `piece::next`, and what each case of its answer says in the paper's terms; the promise of `piece::cut`.
-use Rattle.std.specs.Prelude.{ℕ, ◌+◌, ◌-◌, ◌≡◌, true, List, [], ◌∷◌, take, drop}
+use Rattle.std.specs.Prelude.{ℕ, ◌+◌, ◌-◌, ◌≡◌, true, Option, Some, None, List, [], ◌∷◌, take, drop}
 use Rattle.run.specs.Runs.{all}
 use Rattle.field.specs.Byte.{is_of}
 use Rattle.field.specs.declared.Class.TheVariants.{Printable}
 use Rattle.piece.specs.Pieces.{pieces, piece_length, next_piece}
-use Rattle.piece.specs.declared.Ahead.{Ahead}
-use Rattle.piece.specs.declared.Ahead.TheVariants.{Piece, Nothing}
 use Rattle.piece.specs.declared.Span.{Span}
 
 -- what a text has from a place on: a piece, by its own bytes, or "nothing is left"
@@ -14,16 +12,16 @@ pub data Left : Type 0 where
   nothing_left : Left
 
 -- each case of the answer: the bytes from the place that was asked for up to the one that it names
-abbrev pub left_by : List ℕ → ℕ → Ahead → Left
-left_by s at (Piece e) = piece (take (e - at) (drop at s))
-left_by s at Nothing = nothing_left
+abbrev pub left_by : List ℕ → ℕ → Option ℕ → Left
+left_by s at (Some e) = piece (take (e - at) (drop at s))
+left_by s at None = nothing_left
 
 -- the first of the pieces
 abbrev pub first_of : List (List ℕ) → Left
 first_of [] = nothing_left
 first_of (p ∷ ps) = piece p
 
-pub record Nexts (text : List ℕ) (at : ℕ) (r : Ahead) : Type 0 where
+pub record Nexts (text : List ℕ) (at : ℕ) (r : Option ℕ) : Type 0 where
   -- "At or past the end it answers that nothing is left."
   pub said : r ≡ next_piece text at
   -- it says the first of the pieces that the text has from the place on

@@ -1,7 +1,8 @@
 // The pieces of a text, one after another. What a piece says is not known here.
 #![tactic(auto)]
 
-ghost use Rattle.std.specs.Prelude.{◌+◌, ◌≤◌, ◌≡◌, true, length, take, drop};
+ghost use Rattle.std.specs.Prelude.{◌+◌, ◌≤◌, ◌<◌, ◌≡◌, IfSome, true, length, nat_eq, take, drop};
+ghost use Rattle.std.specs.List.{position_from};
 ghost use Rattle.run.specs.Runs.{all};
 ghost use Rattle.field.specs.Byte.{is_of};
 ghost use Rattle.field.specs.declared.Class.TheVariants.{Printable};
@@ -24,13 +25,6 @@ const FIELDS: usize = 138;
 pub struct Span {
     pub end: usize,
     pub plain: bool,
-}
-
-// The next piece of a text, by the place behind it.
-#[derive(Clone, Copy)]
-pub enum Ahead {
-    Piece(usize),
-    Nothing,
 }
 
 // In two runs, which share six bytes: 16 divides the length of each, so that no byte is looked at alone.
@@ -59,18 +53,21 @@ fn is_plain(text: &[u8], at: usize) -> bool
     fields_printable(text, at)
 }
 
+fn first_lf(s: &[u8]) -> Option<usize>
+    ensures first { result ≡ position_from (λ b. nat_eq b 10) 0 s.now }
+    ensures inside { IfSome result (λ i. i < length s.now) }
+{
+    s.iter().position(|b| *b == LF)
+}
+
 fn end_by_bytes(text: &[u8], at: usize) -> usize
     requires { at ≤ length text.now }
     ensures { result ≡ at + piece_length (drop at text.now) }
 {
-    let mut i = at;
-    while i < text.len() {
-        if text[i] == LF {
-            return i + 1;
-        }
-        i += 1;
+    match first_lf(&text[at..]) {
+        Some(i) => at + i + 1,
+        None => text.len(),
     }
-    i
 }
 
 // The piece that starts at a place.
@@ -94,12 +91,12 @@ pub fn end(text: &[u8], at: usize) -> usize
     cut(text, at).end
 }
 
-// Any text, any place.
-pub fn next(text: &[u8], at: usize) -> Ahead
+// The place behind the next piece of a text, or that nothing is left. Any text, any place.
+pub fn next(text: &[u8], at: usize) -> Option<usize>
     ensures { Nexts text.now at result }
 {
     if text.len() <= at {
-        return Ahead::Nothing;
+        return None;
     }
-    Ahead::Piece(end(text, at))
+    Some(end(text, at))
 }

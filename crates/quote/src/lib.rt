@@ -18,7 +18,7 @@ pub const ID: usize = 16;
 pub const MOST_EXECUTED: u64 = 4_294_967_295;
 
 // A row stands for each of these. The token of the key holds the id, in its sixteen characters.
-#[derive(Clone, Copy)]
+#[derive(Clone, Copy, PartialEq, Eq)]
 pub struct Quote {
     pub key: Key,
     pub side: u8,
@@ -33,6 +33,7 @@ pub struct QuoteRow {
 }
 
 // The constant by its definition, so that nothing else has to open it.
+#[tactic(auto, unfolding(crate::specs::Quotes::most_rows))]
 pub fn most_rows() -> usize
     ensures { result ≡ most_rows }
 {

@@ -3,26 +3,22 @@ ghost use Rattle.std.specs.Prelude.{◌≡◌, length};
 ghost use Rattle.quote.specs.Quotes.{lawful_quote, names_quote, sound_row};
 
 use crate::{ID, MOST_EXECUTED, Quote, QuoteRow};
-use field::{Class, verbatim};
+use field::verbatim;
 
-// A token in bytes.
-const TOKEN: usize = 20;
-
+#[tactic(auto, unfolding(crate::specs::Quotes::names_quote))]
 pub fn names_quote(token: &[u8]) -> bool
     requires { length token.now ≡ 20 }
     ensures { result ≡ names_quote token.now }
 {
-    verbatim::all_of(&token[0..ID], Class::Hex) & verbatim::all_of(&token[ID..TOKEN], Class::Space)
+    let (id, padding) = token.split_at(ID);
+    verbatim::hex(id) & verbatim::blank(padding)
 }
 
 fn lawful_quote(q: Quote) -> bool
     ensures { result ≡ lawful_quote q }
 {
-    let key = q.key;
-    let source = key.source;
-    let token = key.token;
-    order::is_text(&source)
-        & names_quote(&token)
+    verbatim::text(&q.key.source)
+        & names_quote(&q.key.token)
         & run::member(q.side, &layout::SIDES)
         & order::lawful_series(q.series)
 }

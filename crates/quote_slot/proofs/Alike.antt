@@ -20,12 +20,11 @@ use Rattle.quote.specs.declared.Quote.{Quote}
 use Rattle.quote.specs.declared.QuoteRow.{QuoteRow}
 use Rattle.quote.proofs.Sameness.{quote_self, quote_eq}
 use Rattle.quote.proofs.Rows.{unlike_last}
-use Rattle.section.specs.Sections.{start_of, record_of, Inside, Holds, KeyOf}
+use Rattle.section.specs.Sections.{start_of, record_of, Inside, KeyOf}
 use Rattle.section.specs.declared.Section.{Section}
 use Rattle.section.proofs.Places.{key_in_record, length_record}
 use Rattle.section.proofs.Lists.{records_last}
 use Rattle.index.specs.Searches.{earliest, all_distinct}
-use Rattle.index.specs.Indexes.{Builds}
 use Rattle.index.proofs.Listed.{earliest_listed}
 use Rattle.slot.specs.Slots.{is_byte}
 use Rattle.quote_slot.specs.QuoteSlots.{quote_width, rows, row_quotes, row_at, quote_in, row_in, quote_bytes, rows_in, FitsQuote}
@@ -87,13 +86,6 @@ module _ (base : ℕ) (s : List ℕ) where
 -- ---- `quote_slot::finding`: records are sought over keys that are known to be the quotes of the rows
 
 module _ {keys : Section} {base : ℕ} (k : keys ≡ row_quotes base) (s : List ℕ) (n : ℕ) (room : row_at base n ≤ length s) where
-  pub quotes_held : Holds keys s n
-  quotes_held = let held : Holds (row_quotes base) s n = record { apart = omega arith; inside = λ i l. omega arith } in rw k held
-
-  -- by an index in scratch that has room for it
-  pub quotes_built : {heads nexts : List ℕ} → 1 ≤ length heads → n ≤ length nexts → n ≤ 65535 → Builds keys s n heads nexts
-  quotes_built some long small = record { holds = quotes_held; some = some; room = long; small = small }
-
   module _ (bytes : all is_byte s ≡ true) where
     pub unlike_told : {r : Bool} → r ≡ all_distinct keys s n → r ≡ unlike (rows_in base n s)
     unlike_told e = e ∙ rw k (rows_unlike base s bytes n room)
@@ -102,9 +94,6 @@ module _ {keys : Section} {base : ℕ} (k : keys ≡ row_quotes base) (s : List 
     module _ (q : Quote) (f : FitsQuote q) (l b : List ℕ) (wide : length l ≡ quote_width) (stored : b ≡ sets l 0 (quote_bytes q)) where
       run_is : b ≡ quote_bytes q
       run_is = stored ∙ sets_whole l (quote_bytes q) (length_quote f ∙ sym wide)
-
-      pub run_wide : length b ≡ keys.width
-      run_wide = rw (run_is, k) (length_quote f)
 
       pub found_row : {found : ℕ} → found ≡ earliest keys s n b → found ≡ row_place q (rows_in base n s)
       found_row e =

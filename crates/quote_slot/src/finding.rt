@@ -6,9 +6,9 @@ ghost use Rattle.quote_slot.specs.QuoteSlots.{row_at, row_quotes, rows_in, FitsQ
 
 use crate::write::put_quote;
 use crate::{QUOTE, ROW};
+use index::Index;
 use quote::Quote;
 use section::Section;
-use slot::Place;
 
 // An index of the most rows that a table has, four buckets a row.
 const HEADS: usize = 512;
@@ -26,14 +26,14 @@ fn quotes(base: usize) -> Section
 }
 
 // The row of a quote among the first n.
-pub fn find(t: &[u8], base: usize, n: usize, q: Quote) -> Place
+pub fn find(t: &[u8], base: usize, n: usize, q: Quote) -> Option<usize>
     requires n_in_bounds { row_at base n ≤ length t.now }
     requires fits_quote { FitsQuote q }
     ensures { place_no result ≡ row_place q (rows_in base n t.now) }
 {
     let mut sought = [0u8; QUOTE];
     put_quote(&mut sought, 0, q);
-    slot::place_of(index::scan(t, quotes(base), n, &sought))
+    index::scan(t, quotes(base), n, &sought)
 }
 
 // Whether no two of the first n rows have one quote. By an index of them: pair by pair it would cost the square of n.
@@ -46,5 +46,12 @@ pub fn unlike(t: &[u8], base: usize, n: usize) -> bool
     let mut heads = [0u16; HEADS];
     let mut nexts = [0u16; NEXTS];
     index::build(t, keys, n, &mut heads, &mut nexts);
-    index::distinct(t, keys, n, &heads, &nexts)
+    let index = Index {
+        t,
+        keys,
+        n,
+        heads: &heads,
+        nexts: &nexts,
+    };
+    index.distinct()
 }

@@ -7,7 +7,7 @@ mod read;
 mod write;
 
 pub use finding::{find, unlike};
-pub use read::row_at;
+pub use read::{row_at, rows};
 pub use write::store;
 
 // A row, and the quote at its beginning, laid out as the beginning of a slot.

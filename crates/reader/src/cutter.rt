@@ -3,26 +3,19 @@ ghost use Rattle.std.specs.Prelude.{◌≡◌};
 ghost use Rattle.reader.specs.Starting.{place_behind};
 ghost use Rattle.reader.specs.Handed.{VeryBytes};
 
-use piece::Ahead;
-
 // The place behind the piece that starts at a place; at or past the end the place itself.
 pub fn behind(text: &[u8], at: usize) -> usize
     ensures { result ≡ place_behind text.now at }
 {
-    match piece::next(text, at) {
-        Ahead::Piece(e) => e,
-        Ahead::Nothing => at,
-    }
+    piece::next(text, at).unwrap_or(at)
 }
 
 // The piece that starts at a place; at or past the end the empty end of the text.
 pub fn cut(text: &[u8], at: usize) -> &[u8]
     ensures { VeryBytes text.entry at result }
 {
-    let n = text.len();
-    if n <= at {
-        return &text[n..n];
+    match piece::next(text, at) {
+        Some(end) => &text[at..end],
+        None => &text[text.len()..],
     }
-    let e = piece::end(text, at);
-    &text[at..e]
 }

@@ -8,8 +8,6 @@ ghost use Rattle.reader.specs.Handed.{VeryBytes};
 ghost use Rattle.reader.specs.Numbering.{Numbered};
 ghost use Rattle.reader.specs.Reading.{over_text, past_piece};
 
-use piece::Ahead;
-
 mod cutter;
 
 #[derive(Clone, Copy)]
@@ -26,7 +24,7 @@ pub fn over<'a>(text: &'a [u8]) -> Reader<'a>
 }
 
 // The next piece, by the place behind it, or that nothing is left.
-pub fn next<'a>(r: Reader<'a>) -> Ahead
+pub fn next<'a>(r: Reader<'a>) -> Option<usize>
     ensures { Nexts r.entry.text.now r.entry.at result }
 {
     piece::next(r.text, r.at)
@@ -55,7 +53,7 @@ pub fn count(text: &[u8]) -> usize
 {
     let mut r = over(text);
     let mut n = 0;
-    while let Ahead::Piece(_) = next(r) {
+    while next(r).is_some() {
         r = past(r);
         n += 1;
     }
@@ -67,13 +65,11 @@ pub fn nth<'a>(text: &'a [u8], n: usize) -> &'a [u8]
     ensures { Numbered text.entry n result }
 {
     let mut r = over(text);
-    let mut i = 0;
-    while i < n {
-        let Ahead::Piece(_) = next(r) else {
+    for _ in 0..n {
+        if next(r).is_none() {
             break;
-        };
+        }
         r = past(r);
-        i += 1;
     }
     bytes(r)
 }

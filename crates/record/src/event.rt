@@ -7,22 +7,14 @@ use layout::{Event, Trade};
 pub(crate) fn event_of(t: u8, trade: Trade) -> Event
     ensures { result ≡ event_of t trade }
 {
-    if t == b'A' {
-        return Event::Accepted;
+    match t {
+        b'A' => Event::Accepted,
+        b'E' => Event::Executed(trade),
+        b'X' => Event::Cancelled,
+        b'C' => Event::Broken(trade),
+        b'U' => Event::Replaced,
+        _ => Event::Repriced,
     }
-    if t == b'E' {
-        return Event::Executed(trade);
-    }
-    if t == b'X' {
-        return Event::Cancelled;
-    }
-    if t == b'C' {
-        return Event::Broken(trade);
-    }
-    if t == b'U' {
-        return Event::Replaced;
-    }
-    Event::Repriced
 }
 
 // The letter of an event.
@@ -43,17 +35,12 @@ pub fn type_of(event: Event) -> u8
 pub fn trade_of(event: Event) -> Trade
     ensures { result ≡ trade_of event }
 {
-    let none = Trade {
-        liquidity: b' ',
-        match_id: 0,
-        cross_id: 0,
-    };
     match event {
-        Event::Executed(trade) => trade,
-        Event::Broken(trade) => trade,
-        Event::Accepted => none,
-        Event::Cancelled => none,
-        Event::Replaced => none,
-        Event::Repriced => none,
+        Event::Executed(trade) | Event::Broken(trade) => trade,
+        _ => Trade {
+            liquidity: b' ',
+            match_id: 0,
+            cross_id: 0,
+        },
     }
 }

@@ -12,7 +12,7 @@ use Rattle.run.specs.Runs.{all}
 use Rattle.field.specs.Byte.{is_of}
 use Rattle.field.specs.Number.{spaced, rest, filled}
 use Rattle.field.specs.declared.Class.TheVariants.{Digit}
-use Rattle.field.specs.declared.Number.TheVariants.{Value}
+use Rattle.std.specs.Prelude.{Some}
 use Rattle.run.proofs.All.{all_snoc}
 use Rattle.field.proofs.Fill.{FillWritten, is_between, length_snoc, snoc_written}
 use Rattle.field.proofs.Laws.{spaced_read}
@@ -108,15 +108,15 @@ decimal_grows n m h = decimal_in_grows 20 n m h
 -- ---- what it says
 
 -- a number behind its fill, in so many bytes as are not none
-read_back : (k n : ℕ) → 1 ≤ k → n < 10 ^ k → spaced (filled 32 k n) ≡ Value n
+read_back : (k n : ℕ) → 1 ≤ k → n < 10 ^ k → spaced (filled 32 k n) ≡ Some n
 read_back zero n p h = absurd (omega arith)
 read_back (suc k) n p h = spaced_read k n h
 
-pub decimal_value : (n : ℕ) → n < 10 ^ 20 → spaced (decimal n) ≡ Value n
+pub decimal_value : (n : ℕ) → n < 10 ^ 20 → spaced (decimal n) ≡ Some n
 decimal_value n h = ap spaced (decimal_filled n h) ∙ read_back (length (decimal n)) n (decimal_some n) (decimal_written 19 n h).1
 
 pub decimal_one : (n m : ℕ) → n < 10 ^ 20 → m < 10 ^ 20 → decimal n ≡ decimal m → n ≡ m
-decimal_one n m h k e = let v : Value n ≡ Value m = sym (decimal_value n h) ∙ ap spaced e ∙ decimal_value m k in cc
+decimal_one n m h k e = let v : Some n ≡ Some m = sym (decimal_value n h) ∙ ap spaced e ∙ decimal_value m k in cc
 
 -- ---- each byte is a digit
 

@@ -6,7 +6,7 @@ pub mod Scan
 pub mod All
 -- A part before, after and inside a run of stores
 pub mod Parts
--- Stores one behind another, and a loop of them
+-- Stores one behind another, and over a whole buffer
 pub mod Stores
 -- Two runs that the test takes for the same are equal
 pub mod Sameness

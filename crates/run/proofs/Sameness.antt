@@ -2,16 +2,16 @@
 use Prim.Native.Nat.{ℕ, ◌+◌, ◌≤◌, ◌<◌}
 use native.Mathlib.Nat.{le_of_eq}
 use mathlib.Core.Path.{◌≡◌, refl, sym, ap, ap₂, ◌∙◌}
-use mathlib.Core.Bool.{Bool, true, ◌&&◌, and_assoc, and-true, false≢true}
+use mathlib.Core.Bool.{Bool, true, ◌&&◌, and_assoc, false≢true}
 use mathlib.Core.List.{List, [], ◌∷◌}
 use borrow.Author.Tests.{eqb-true, eq-eqb}
 use lib.Dec.{eqb}
-use lib.ListN.{length, get_or, drop, drop_of_length-le}
+use lib.ListN.{length, get_or, drop}
 use lib.Seq.{take_all}
 use Rattle.run.specs.Runs.{part, same}
 use Rattle.run.proofs.Tests.{both}
 use Rattle.run.proofs.Scan.{at_next}
-use Rattle.run.proofs.Parts.{part_next, part_end}
+use Rattle.run.proofs.Parts.{part_next}
 
 pub same_self : (s : List ℕ) → same s s ≡ true
 same_self [] = refl
@@ -39,6 +39,3 @@ module _ (l t : List ℕ) (at i : ℕ) where
       → x ≡ ((good && eqb (get_or l (at + i) 0) (get_or t i 0)) && rest (i + 1))
   same_next x good h k e =
       e ∙ rw (part_next l at (length t) i h k, at_next t i k) (sym (and_assoc good (eqb (get_or l (at + i) 0) (get_or t i 0)) (rest (i + 1))))
-
-  pub same_end : (x good : Bool) → length t ≤ i → x ≡ (good && rest i) → x ≡ good
-  same_end x good h e = e ∙ rw (part_end l at (length t) i h, drop_of_length-le t h) (and-true good)

@@ -1,13 +1,12 @@
 -- What a loop over a run keeps: what was seen, and what is left to do, give the same end.
 use Prim.Native.Nat.{ℕ, ◌+◌, ◌≤◌, ◌<◌}
 use mathlib.Core.Path.{◌≡◌, sym, ◌∙◌}
-use mathlib.Core.Bool.{Bool, ◌&&◌, ◌||◌, and_assoc, and-true, or_assoc, or-false}
+use mathlib.Core.Bool.{Bool, ◌&&◌, and_assoc, and-true}
 use mathlib.Core.List.{List, ◌∷◌}
 use native.Mathlib.Numerals.{add-one}
 use lib.ListN.{length, get_or, drop, drop_of_length-le}
 use lib.Seq.{drop-cons}
-use lib.Dec.{eqb}
-use Rattle.run.specs.Runs.{all, member}
+use Rattle.run.specs.Runs.{all}
 
 -- the byte at i, and what comes after it
 pub at_next : (s : List ℕ) (i : ℕ) → i < length s → drop i s ≡ get_or s i 0 ∷ drop (i + 1) s
@@ -18,9 +17,3 @@ all_next p s i good b h e k = k ∙ rw (at_next s i h, e) (sym (and_assoc good (
 
 pub all_end : (p : ℕ → Bool) (s : List ℕ) (i : ℕ) (good : Bool) → length s ≤ i → all p s ≡ (good && all p (drop i s)) → good ≡ all p s
 all_end p s i good h k = sym (k ∙ rw (drop_of_length-le s h) (and-true good))
-
-pub member_next : (b : ℕ) (s : List ℕ) (i : ℕ) (found : Bool) → i < length s → member b s ≡ (found || member b (drop i s)) → member b s ≡ (found || eqb b (get_or s i 0) || member b (drop (i + 1) s))
-member_next b s i found h k = k ∙ rw (at_next s i h) (sym (or_assoc found (eqb b (get_or s i 0)) (member b (drop (i + 1) s))))
-
-pub member_end : (b : ℕ) (s : List ℕ) (i : ℕ) (found : Bool) → length s ≤ i → member b s ≡ (found || member b (drop i s)) → found ≡ member b s
-member_end b s i found h k = sym (k ∙ rw (drop_of_length-le s h) (or-false found))

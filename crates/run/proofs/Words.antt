@@ -1,74 +1,49 @@
--- Eight bytes at a time: two runs have the same number exactly where their bytes are the same.
-use Prim.Native.Nat.{ℕ, ◌+◌, ◌*◌, ◌≤◌, ◌<◌}
-use native.Mathlib.Omega.{arith}
-use mathlib.Core.Path.{◌≡◌, refl, ap, ◌∙◌}
-use mathlib.Core.Bool.{Bool, true, false, ◌&&◌, and_assoc}
-use mathlib.Core.List.{List}
-use borrow.Author.Tests.{eqb-true, eqb-false, eq-eqb, ne_eqb}
+-- Eight bytes at a time: two runs of eight have the same number exactly where their bytes are the same.
+use Rattle.std.proofs.Common.{ℕ, zero, suc, ◌+◌, ◌≤◌, ◌<◌, ◌≡◌, Bool, ◌&&◌, List, [], ◌∷◌, ◌++◌, length, get_or, take, drop, w64, refl, sym, ap, ◌∙◌, arith, take-append-drop, drop-drop, get_or-drop}
+use Rattle.std.specs.Int.{from_le_bytes}
+use Rattle.std.proofs.lemmas.Nat.{le_bytes_8}
+use borrow.Author.Tests.{eqb-true, eq-eqb}
 use lib.Dec.{eqb}
-use lib.ListN.{length, get_or, drop}
+use mathlib.Core.Bool.{and_assoc}
 use Rattle.run.specs.Runs.{part, same}
-use Rattle.run.specs.Words.{half_at, word_at, SameUpTo}
-use Rattle.run.proofs.Scan.{at_next}
-use Rattle.run.proofs.Parts.{part_next}
+use Rattle.run.specs.Words.{SameUpTo}
+use Rattle.run.proofs.Parts.{length_part, part_part}
+use Rattle.run.proofs.Sameness.{same_self, same_true}
+use Rattle.run.proofs.Tests.{agree}
 
--- one byte, and a number above it
-two : (a b x y : ℕ) → a < 256 → b < 256 → eqb (a + 256 * x) (b + 256 * y) ≡ (eqb a b && eqb x y)
-two a b x y h k = go (eqb a b) (eqb x y) refl refl
-  where
-    go : (p q : Bool) → eqb a b ≡ p → eqb x y ≡ q → eqb (a + 256 * x) (b + 256 * y) ≡ (p && q)
-    go true true e f =
-        let m = eqb-true a b e in
-        let n = eqb-true x y f in
-        eq-eqb (a + 256 * x) (b + 256 * y) (omega arith)
-    go true false e f = ne_eqb (a + 256 * x) (b + 256 * y) (λ z. eqb-false x y f (omega arith))
-    go false q e f = ne_eqb (a + 256 * x) (b + 256 * y) (λ z. eqb-false a b e (omega arith))
+abbrev Bytes : List ℕ → Type 0
+Bytes s = (k : ℕ) → get_or s k 0 < 256
 
--- four bytes below, and a number above them
-halves : (a b x y : ℕ) → a < 4294967296 → b < 4294967296 → eqb (a + 4294967296 * x) (b + 4294967296 * y) ≡ (eqb a b && eqb x y)
-halves a b x y h k = go (eqb a b) (eqb x y) refl refl
-  where
-    go : (p q : Bool) → eqb a b ≡ p → eqb x y ≡ q → eqb (a + 4294967296 * x) (b + 4294967296 * y) ≡ (p && q)
-    go true true e f =
-        let m = eqb-true a b e in
-        let n = eqb-true x y f in
-        eq-eqb (a + 4294967296 * x) (b + 4294967296 * y) (omega arith)
-    go true false e f = ne_eqb (a + 4294967296 * x) (b + 4294967296 * y) (λ z. eqb-false x y f (omega arith))
-    go false q e f = ne_eqb (a + 4294967296 * x) (b + 4294967296 * y) (λ z. eqb-false a b e (omega arith))
+bytes_take : (w : ℕ) (s : List ℕ) → Bytes s → Bytes (take w s)
+bytes_take zero s h k = omega arith
+bytes_take (suc w) [] h k = omega arith
+bytes_take (suc w) (b ∷ s) h zero = h 0
+bytes_take (suc w) (b ∷ s) h (suc k) = bytes_take w s (λ i. h (suc i)) k
 
-module _ (l t : List ℕ) (at : ℕ) (room : at + length t ≤ length l) (left : (k : ℕ) → get_or l k 0 < 256) (right : (k : ℕ) → get_or t k 0 < 256) where
-  abbrev rest : ℕ → Bool
-  rest j = same (drop j (part l at (length t))) (drop j t)
+bytes_part : (s : List ℕ) (at w : ℕ) → Bytes s → Bytes (part s at w)
+bytes_part s at w h = bytes_take w (drop at s) (λ k. rw get_or-drop (h (at + k)))
 
-  one : (j k n : ℕ) → j < length t → k ≡ at + j → n ≡ j + 1 → rest j ≡ (eqb (get_or l k 0) (get_or t j 0) && rest n)
-  one j k n h e f = rw (e, f, part_next l at (length t) j room h, at_next t j h)
+number_same : (p q : List ℕ) → length p ≡ 8 → length q ≡ 8 → Bytes p → Bytes q → eqb (from_le_bytes w64 p) (from_le_bytes w64 q) ≡ same p q
+number_same p q h k b d = agree _ _
+    (λ e. let same_bytes = sym (le_bytes_8 p _ h b refl) ∙ le_bytes_8 q _ k d (eqb-true _ _ e) in rw same_bytes (same_self q))
+    (λ e. eq-eqb _ _ (ap (from_le_bytes w64) (same_true p q e)))
 
-  four : (i k n : ℕ) → i + 4 ≤ length t → k ≡ at + i → n ≡ i + 4 → rest i ≡ (eqb (half_at l k) (half_at t i) && rest n)
-  four i k n h e f =
-      let third : (s : List ℕ) (m : ℕ) → ℕ = λ s m. get_or s (m + 2) 0 + 256 * get_or s (m + 3) 0 in
-      let second : (s : List ℕ) (m : ℕ) → ℕ = λ s m. get_or s (m + 1) 0 + 256 * third s m in
-      let above = two (get_or l (k + 2) 0) (get_or t (i + 2) 0) (get_or l (k + 3) 0) (get_or t (i + 3) 0) (left (k + 2)) (right (i + 2)) in
-      let between = two (get_or l (k + 1) 0) (get_or t (i + 1) 0) (third l k) (third t i) (left (k + 1)) (right (i + 1)) in
-      let below = two (get_or l k 0) (get_or t i 0) (second l k) (second t i) (left k) (right i) in
-      let bytes : eqb (half_at l k) (half_at t i) ≡ (eqb (get_or l k 0) (get_or t i 0) && (eqb (get_or l (k + 1) 0) (get_or t (i + 1) 0) && (eqb (get_or l (k + 2) 0) (get_or t (i + 2) 0) && eqb (get_or l (k + 3) 0) (get_or t (i + 3) 0)))) =
-      below ∙ ap (λ (x : Bool). eqb (get_or l k 0) (get_or t i 0) && x) (between ∙ ap (λ (x : Bool). eqb (get_or l (k + 1) 0) (get_or t (i + 1) 0) && x) above) in
-      rw (bytes, one i k (i + 1) (omega arith) e refl, one (i + 1) (k + 1) (i + 2) (omega arith) (omega arith) (omega arith), one (i + 2) (k + 2) (i + 3) (omega arith) (omega arith) (omega arith), one (i + 3) (k + 3) n (omega arith) (omega arith) (omega arith))
-      (simp and_assoc)
+same_append : (p q s t : List ℕ) → length p ≡ length q → same (p ++ s) (q ++ t) ≡ (same p q && same s t)
+same_append [] [] s t e = refl
+same_append [] (b ∷ q) s t e = absurd (omega arith)
+same_append (a ∷ p) [] s t e = absurd (omega arith)
+same_append (a ∷ p) (b ∷ q) s t e = rw (same_append p q s t (omega arith)) (sym (and_assoc (eqb a b) (same p q) (same s t)))
 
-  small : (s : List ℕ) (k : ℕ) → ((m : ℕ) → get_or s m 0 < 256) → half_at s k < 4294967296
-  small s k h =
-      let a = h k in
-      let b = h (k + 1) in
-      let c = h (k + 2) in
-      let d = h (k + 3) in
-      omega arith
+-- what is left of a run from its byte i on: its next eight bytes, and the rest
+next_eight : (s : List ℕ) (i : ℕ) → drop i s ≡ part s i 8 ++ drop (i + 8) s
+next_eight s i = sym (take-append-drop 8 (drop i s)) ∙ ap (λ (r : List ℕ). part s i 8 ++ r) (drop-drop 8 i s)
 
-  -- a word of each, a and b, compared
-  pub word_next : (good : Bool) (i k n a b : ℕ) → a ≡ word_at l k → b ≡ word_at t i → i + 8 ≤ length t → k ≡ at + i → n ≡ i + 8
-      → SameUpTo l at t good i → SameUpTo l at t (good && eqb a b) n
-  word_next good i k n a b p q h e f g =
-      let word = halves (half_at l k) (half_at t i) (half_at l (k + 4)) (half_at t (i + 4)) (small l k left) (small t i right) in
-      g ∙ rw (p, q, word, four i k (i + 4) (omega arith) e refl, four (i + 4) (k + 4) n (omega arith) (omega arith) (omega arith)) (simp and_assoc)
-
-pub words_end : (l t : List ℕ) (at : ℕ) (good : Bool) (j n : ℕ) → j ≤ n → n ≤ j → SameUpTo l at t good (8 * j) → SameUpTo l at t good (8 * n)
-words_end l t at good j n h k g = let e : j ≡ n = omega arith in rw e at g
+-- a word of each, a and b, compared
+pub word_next : (l t : List ℕ) (at i k n a b : ℕ) (good : Bool) → at + length t ≤ length l → Bytes l → Bytes t
+    → a ≡ from_le_bytes w64 (part l k 8) → b ≡ from_le_bytes w64 (part t i 8) → i + 8 ≤ length t → k ≡ at + i → n ≡ i + 8
+    → SameUpTo l at t good i → SameUpTo l at t (good && eqb a b) n
+word_next l t at i k n a b good room left right p q h e f g =
+    let word = number_same (part l k 8) (part t i 8) (length_part l k 8 (omega arith)) (length_part t i 8 h) (bytes_part l k 8 left) (bytes_part t i 8 right) in
+    let eight : length (part l k 8) ≡ length (part t i 8) = length_part l k 8 (omega arith) ∙ sym (length_part t i 8 h) in
+    let front : part (part l at (length t)) i 8 ≡ part l k 8 = rw e (part_part l at (length t) i 8 h) in
+    g ∙ rw (next_eight (part l at (length t)) i, next_eight t i, front, same_append (part l k 8) (part t i 8) _ _ eight, f, p, q, word) (simp and_assoc)

@@ -1,20 +1,17 @@
 // Runs of bytes in lent buffers: stored, copied, compared, searched. What they mean is not known here.
 #![tactic(auto)]
 
-ghost use Rattle.std.specs.Prelude.{◌+◌, ◌*◌, ◌^◌, ◌≤◌, ◌<◌, ◌≡◌, [], ◌∷◌, length};
+ghost use Rattle.std.specs.Prelude.{◌+◌, ◌*◌, ◌≤◌, ◌<◌, ◌≡◌, [], ◌∷◌, length};
+ghost use Rattle.std.specs.Int.{from_le_bytes, w64};
 ghost use Rattle.std.proofs.lemmas.List.Edits.{sets};
 ghost use Rattle.run.specs.Runs.{part, all, is_zero, member as runs_member, same as runs_same};
-ghost use Rattle.run.specs.Words.{SameUpTo, half_at, word_at};
+ghost use Rattle.run.specs.Words.{SameUpTo};
 
 pub fn store(out: &mut [u8], at: usize, s: &[u8])
     requires { at + length s.now ≤ length out.old }
     ensures { out.new ≡ sets out.old at s.now }
 {
-    let mut i = 0;
-    while i < s.len() {
-        out[at + i] = s[i];
-        i += 1;
-    }
+    out[at..at + s.len()].copy_from_slice(s);
 }
 
 pub fn byte(out: &mut [u8], at: usize, b: u8)
@@ -29,7 +26,17 @@ pub fn copy(out: &mut [u8], s: &[u8])
     requires { length s.now ≡ length out.old }
     ensures { out.new ≡ s.now }
 {
-    store(out, 0, s);
+    out.copy_from_slice(s);
+}
+
+// The N bytes from an offset on.
+pub fn array<const N: usize>(s: &[u8], at: usize) -> [u8; N]
+    requires { at + N ≤ length s.now }
+    ensures { result ≡ part s.now at N }
+{
+    let mut bytes = [0; N];
+    bytes.copy_from_slice(&s[at..at + N]);
+    bytes
 }
 
 // No early exit, so that it is vectorised.
@@ -37,31 +44,18 @@ pub fn member(b: u8, s: &[u8]) -> bool
     ensures { result ≡ runs_member b s.now }
 {
     let mut found = false;
-    let mut i = 0;
-    while i < s.len() {
-        found = found | (b == s[i]);
-        i += 1;
+    for x in s {
+        found |= b == *x;
     }
     found
 }
 
-// Four bytes as one number, little end first, and eight: the compiler loads them at once.
-fn half(s: &[u8], at: usize) -> u64
-    requires { at + 4 ≤ length s.now }
-    ensures { (result ≡ half_at s.now at) × (result < 2 ^ 32) }
-{
-    let a = s[at] as u64;
-    let b = s[at + 1] as u64;
-    let c = s[at + 2] as u64;
-    let d = s[at + 3] as u64;
-    a + 256 * (b + 256 * (c + 256 * d))
-}
-
+// Eight bytes as one number: the compiler loads them at once.
 fn word(s: &[u8], at: usize) -> u64
     requires { at + 8 ≤ length s.now }
-    ensures { result ≡ word_at s.now at }
+    ensures { result ≡ from_le_bytes w64 (part s.now at 8) }
 {
-    half(s, at) + 4_294_967_296 * half(s, at + 4)
+    u64::from_le_bytes(array(s, at))
 }
 
 // Whether the first words of a run are those from an offset on.
@@ -71,10 +65,8 @@ fn same_words(s: &[u8], at: usize, other: &[u8], words: usize) -> bool
     ensures { SameUpTo s.now at other.now result (8 * words) }
 {
     let mut good = true;
-    let mut j = 0;
-    while j < words {
-        good = good & (word(s, at + 8 * j) == word(other, 8 * j));
-        j += 1;
+    for j in 0..words {
+        good &= word(s, at + 8 * j) == word(other, 8 * j);
     }
     good
 }
@@ -86,10 +78,8 @@ pub fn same_at(s: &[u8], at: usize, other: &[u8]) -> bool
 {
     let words = other.len() / 8;
     let mut good = same_words(s, at, other, words);
-    let mut i = 8 * words;
-    while i < other.len() {
-        good = good & (s[at + i] == other[i]);
-        i += 1;
+    for i in 8 * words..other.len() {
+        good &= s[at + i] == other[i];
     }
     good
 }
@@ -108,10 +98,8 @@ pub fn zeros(s: &[u8], at: usize, w: usize) -> bool
     ensures { result ≡ all is_zero (part s.now at w) }
 {
     let mut good = true;
-    let mut i = 0;
-    while i < w {
-        good = good & (s[at + i] == 0);
-        i += 1;
+    for b in &s[at..at + w] {
+        good &= *b == 0;
     }
     good
 }

@@ -3,10 +3,12 @@ use Prim.Native.Nat.{ℕ, zero, suc, ◌+◌, ◌-◌, ◌≤◌, ◌<◌}
 use native.Mathlib.Nat.{zero-add}
 use native.Mathlib.Omega.{arith}
 use mathlib.Core.Path.{◌≡◌, refl, sym, ap, ap₂, subst, ◌∙◌}
+use mathlib.Core.Bool.{Bool, true, false}
 use mathlib.Core.List.{List, [], ◌∷◌, ◌++◌, map, append_assoc}
 use lib.Dec.{eqb}
 use lib.ListN.{length, get_or, length-append, get_or-append}
 use lib.Seq.{get_or-append-add}
+use mir.Val.{bool_byte}
 use Rattle.order.specs.declared.Order.{Order}
 use Rattle.quote.specs.declared.QuoteRow.{QuoteRow}
 use Rattle.day.specs.Tables.{Table}
@@ -94,6 +96,11 @@ module _ (s : List ℕ) where
       ∙ get_or-append-add orders quotes i []
       ∙ map_no saved_row (table_in s).quotes i here (omega (arith, length_rows (base_in s) (row_count_in s) s))
       ∙ ap saved_row (row_no (base_in s) (row_count_in s) s i here (omega arith))
+
+-- the mark as a number is the bool as a number
+pub mark_said : (over : Bool) → bool_byte over ≡ mark_of over
+mark_said true = refl
+mark_said false = refl
 
 -- the front by the numbers that a header gives
 module _ (s : List ℕ) {mark n m : ℕ} (a : mark ≡ mark_of (eqb (get_or s 4 0) 1)) (b : n ≡ count_in s) (c : m ≡ row_count_in s) where

@@ -81,9 +81,6 @@ pub record Laying (s before : List ℕ) (start n : ℕ) (out : List ℕ) (at k :
   pub ends : at + length (from s k) ≡ start + length (from s 0)
   pub same_end : sets out at (from s k) ≡ sets before start (from s 0)
 
-pub lay_first : {s before : List ℕ} {start n : ℕ} → n ≡ count_in s + row_count_in s → Laying s before start n before start 0
-lay_first q = record { count = q; long = refl; ends = refl; same_end = refl }
-
 pub front_fits : (s : List ℕ) {room : ℕ} → length (saved_day (table_in s)) ≤ room → length (front_of s) ≤ room
 front_fits s h = omega (arith, day_long s)
 
@@ -134,9 +131,6 @@ module _ {text buffer mid : List ℕ} {r : ℕ} (p : Puts text 0 buffer r mid) (
   its_bytes =
       let long : r - 0 ≡ length text = omega (arith, p.next) in
       rw (long, p.stored, sets_start buffer text h) (take-append_seam text (drop (length text) buffer))
-
-  pub text_there : (at : ℕ) {room : ℕ} → at + length text ≤ room → at + length (take (r - 0) mid) ≤ room
-  text_there at l = rw its_bytes l
 
   pub text_laid : {out after : List ℕ} {at : ℕ} → after ≡ sets out at (take (r - 0) mid) → Puts text at out (at + r) after
   text_laid {out} {after} {at} e = record { stored = e ∙ ap (sets out at) its_bytes; next = omega (arith, p.next) }

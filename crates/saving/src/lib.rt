@@ -3,7 +3,7 @@
 
 ghost use Rattle.std.specs.Prelude.{◌+◌, ◌≤◌, ◌<◌, ◌≡◌, true, leb, length};
 ghost use Rattle.groups.specs.Groups.{Puts};
-ghost use Rattle.saved.specs.Days.{mark_of, saved_day};
+ghost use Rattle.saved.specs.Days.{saved_day};
 ghost use Rattle.table.specs.Tables.{count_in, row_count_in, sound, table_in};
 ghost use Rattle.saving.specs.Promises.{Saves};
 ghost use Rattle.saving.specs.Saving.{entry_no, front_of};
@@ -12,43 +12,27 @@ use entry::ORDER;
 use refusal::Refusal;
 use table::{damage, header};
 
-// The answer: how many bytes were written.
-#[derive(Clone, Copy)]
-pub enum Saved {
-    Done(usize),
-    Refused(Refusal),
-}
-
-// Any bytes for a table, any buffer. On a refusal not one byte is changed.
-pub fn save(t: &[u8], out: &mut [u8]) -> Saved
+// Any bytes for a table, any buffer; how many bytes were written. On a refusal not one byte is changed.
+pub fn save(t: &[u8], out: &mut [u8]) -> Result<usize, Refusal>
     ensures { Saves t.now out.old result out.new }
 {
     if !damage::is_sound(t) {
-        return Saved::Refused(Refusal::Damaged);
+        return Err(Refusal::Damaged);
     }
     if !fits(t, out.len()) {
-        return Saved::Refused(Refusal::NoRoom);
+        return Err(Refusal::NoRoom);
     }
-    Saved::Done(put_day(t, out))
-}
-
-// The mark of the day's end, as a number.
-fn mark(over: bool) -> u64
-    ensures { result ≡ mark_of over }
-{
-    if over {
-        return 1;
-    }
-    0
+    Ok(put_day(t, out))
 }
 
 // The form, the mark and the two counts; how many bytes they take.
+#[tactic(auto, using(table::proofs::Sound::header_there))]
 fn put_front(t: &[u8], out: &mut [u8]) -> usize
     requires t_value { sound t.now ≡ true }
     requires t_in_bounds { length (front_of t.now) ≤ length out.old }
     ensures { Puts (front_of t.now) 0 out.old result out.new }
 {
-    let over = mark(header::is_over(t));
+    let over = u64::from(header::is_over(t));
     let orders = header::count(t);
     let rows = header::row_count(t) as u64;
     let numbers = [1, over, orders, rows];
@@ -56,6 +40,7 @@ fn put_front(t: &[u8], out: &mut [u8]) -> usize
 }
 
 // How many entries there are.
+#[tactic(auto, using(table::proofs::Sound::header_there))]
 fn entries(t: &[u8]) -> usize
     requires { sound t.now ≡ true }
     ensures { result ≡ count_in t.now + row_count_in t.now }
@@ -64,6 +49,7 @@ fn entries(t: &[u8]) -> usize
 }
 
 // Entry k to the front of a buffer that has room for any; how many bytes it takes.
+#[tactic(auto, using(table::proofs::Sound::header_there, table::proofs::Sound::slots_there, table::proofs::Sound::rows_there))]
 fn put_entry(t: &[u8], k: usize, buffer: &mut [u8]) -> usize
     requires t_value { sound t.now ≡ true }
     requires k_bound { k < count_in t.now + row_count_in t.now }
@@ -100,16 +86,13 @@ pub fn fits(t: &[u8], space: usize) -> bool
     if space < front {
         return false;
     }
-    let n = entries(t);
     let mut left = space - front;
-    let mut i = 0;
-    while i < n {
+    for i in 0..entries(t) {
         let long = put_entry(t, i, &mut buffer);
         if left < long {
             return false;
         }
         left -= long;
-        i += 1;
     }
     true
 }
@@ -121,12 +104,9 @@ pub fn put_day(t: &[u8], out: &mut [u8]) -> usize
     ensures { Puts (saved_day (table_in t.now)) 0 out.old result out.new }
 {
     let mut buffer = [0u8; ORDER];
-    let n = entries(t);
     let mut at = put_front(t, out);
-    let mut k = 0;
-    while k < n {
+    for k in 0..entries(t) {
         at = lay_entry(t, k, &mut buffer, out, at);
-        k += 1;
     }
     at
 }

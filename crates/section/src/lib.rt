@@ -14,11 +14,20 @@ pub struct Section {
     pub width: usize,
 }
 
-pub fn start(t: &[u8], c: Section, i: usize) -> usize
+fn start(t: &[u8], c: Section, i: usize) -> usize
     requires { Inside c t.now i }
     ensures { result ≡ start_of c i }
 {
     c.first + c.step * i
+}
+
+// Record i as it is lent.
+pub fn record(t: &[u8], c: Section, i: usize) -> &[u8]
+    requires { Inside c t.now i }
+    ensures { result.now ≡ record_of c t.now i }
+{
+    let at = start(t, c, i);
+    &t[at..at + c.width]
 }
 
 // Whether record i is the bytes given.
@@ -27,7 +36,7 @@ pub fn same(t: &[u8], c: Section, i: usize, bytes: &[u8]) -> bool
     requires bytes_len { length bytes.now ≡ c.width }
     ensures { result ≡ runs_same (record_of c t.now i) bytes.now }
 {
-    run::same_at(t, c.first + c.step * i, bytes)
+    run::same_at(t, start(t, c, i), bytes)
 }
 
 // An append is a store at the number of the records that are there.
@@ -36,5 +45,6 @@ pub fn store(t: &mut [u8], c: Section, i: usize, bytes: &[u8])
     requires bytes_len { length bytes.now ≡ c.width }
     ensures { t.new ≡ sets t.old (start_of c i) bytes.now }
 {
-    run::store(t, c.first + c.step * i, bytes);
+    let at = start(t, c, i);
+    run::store(t, at, bytes);
 }

@@ -16,7 +16,8 @@ use Rattle.run.proofs.Found.{or_none}
 use Rattle.day.specs.Damage.{elders_of}
 use Rattle.day.proofs.Listings.{by_test}
 use Rattle.slot.specs.Places.{orders_in, slot_at}
-use Rattle.sheet.specs.Kin.{Kin, Notes, younger_of}
+use Rattle.std.specs.Prelude.{Some, None}
+use Rattle.sheet.specs.Kin.{Kin, Notes, as_noted, younger_of}
 use Rattle.sheet.specs.Walk.{elders_in, seek}
 use Rattle.sheet.proofs.Seeking.{elder_in, length_elders_in}
 use Rattle.sheet.proofs.Turning.{seek_from}
@@ -101,11 +102,17 @@ none_goes_on e j m (x ∷ xs) ys q h = go (eqb x e) h (λ l. none_goes_on e (j +
 
 -- the younger order by what the search found
 by_found : (es : List ℕ) (p y : ℕ) → seek (p + 1) (p + 1) (drop (p + 1) es) ≡ y → younger_of es p ≡ cond (ltb y (length es)) y 0
-by_found es p y q = rw q
+by_found es p y q = rw q (go (ltb y (length es)))
+  where
+    go : (t : Bool) → as_noted (cond t (Some y) None) ≡ cond t y 0
+    go true = refl
+    go false = refl
 
 younger_more : (es : List ℕ) (e p : ℕ) → p < length es
     → younger_of (es ++ (e ∷ [])) p ≡ or_else (younger_of es p) (cond (eqb e (p + 1)) (length es) 0)
-younger_more es e p h = go (ltb (seek (p + 1) (p + 1) (drop (p + 1) es)) (length es)) refl
+younger_more es e p h =
+    let y = seek (p + 1) (p + 1) (drop (p + 1) es) in
+    go (ltb y (length es)) refl ∙ ap (λ (k : ℕ). or_else k (cond (eqb e (p + 1)) (length es) 0)) (sym (by_found es p y refl))
   where
     long : length (es ++ (e ∷ [])) ≡ length es + 1
     long = length-append es (e ∷ [])
@@ -166,6 +173,3 @@ kin_more {s} {kin} {after} {i} {v} k r h q w = record { slots = r; long = omega 
 
 pub kin_all : {s kin : List ℕ} {i n : ℕ} → Kin i s kin → i ≡ n → Kin n s kin
 kin_all {s} {kin} k e = rw e at k
-
-pub is_younger : {n : ℕ} {s kin : List ℕ} {i r : ℕ} → Kin n s kin → i < n → r ≡ get_or kin i 0 → r ≡ younger_of (elders_in n s) i
-is_younger {i = i} k h q = q ∙ k.each i h

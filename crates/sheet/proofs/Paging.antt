@@ -8,7 +8,9 @@ use borrow.Author.Tests.{leb-false, leb-true, le-ltb, lt-ltb}
 use lib.Dec.{leb, ltb}
 use lib.ListN.{length, drop, take, length-drop}
 use lib.Seq.{drop-drop, take-add, take_all}
-use Rattle.refusal.specs.Answer.{Answer, value, refused}
+use Rattle.std.specs.Prelude.{Option, Result, Ok, Err}
+use Rattle.refusal.specs.Answer.{Answer, value, refused, answer_of}
+use Rattle.refusal.specs.declared.Refusal.{Refusal}
 use Rattle.refusal.specs.declared.Refusal.TheVariants.{NoRoom}
 use Rattle.order.specs.declared.Order.{Order}
 use Rattle.day.specs.Case.{WholeCase, whole_case}
@@ -23,12 +25,10 @@ use Rattle.slot.specs.Places.{orders_in}
 use Rattle.slot.proofs.Laws.{length_orders}
 use Rattle.table.specs.Tables.{count_in, sound, table_in}
 use Rattle.sheet.specs.Pages.{Pages, page_of, page_of_sheet, row_by_row}
-use Rattle.sheet.specs.Promises.{sheet_written_of, text_answer, text_from}
+use Rattle.sheet.specs.Promises.{text_answer, text_from}
 use Rattle.sheet.specs.Texts.{families_text, rows_text}
 use Rattle.sheet.specs.Walk.{elders_in, members_left, stretch_text, text_left}
 use Rattle.sheet.specs.declared.Turn.{Turn}
-use Rattle.sheet.specs.declared.SheetWritten.{SheetWritten}
-use Rattle.sheet.specs.declared.SheetWritten.TheVariants.{Done, Refused}
 use Rattle.sheet.proofs.Answering.{families_counted}
 use Rattle.sheet.proofs.Rowing.{walk_rows}
 use Rattle.sheet.proofs.Seeking.{length_elders_in}
@@ -91,8 +91,8 @@ rows_paged os (suc passed) most (m ∷ members) h = go (drop m.at os) refl (rows
 all_inside : (n : ℕ) (s : List ℕ) → Inside (length (orders_in 0 n s)) (families 1 0 (elders_in n s))
 all_inside n s = families_inside (length (orders_in 0 n s)) 1 0 (elders_in n s) (omega (arith, length_elders_in n s, length_orders 0 n s))
 
-pub page_text : (s : List ℕ) (n passed most : ℕ) (x : Turn) → n ≡ count_in s
-    → members_left n (elders_in n s) x ≡ drop passed (families 1 0 (elders_in n s)) → text_left n s most x ≡ page_of s passed most
+pub page_text : (s : List ℕ) (n passed most : ℕ) (x : Option Turn) → n ≡ count_in s
+    → members_left (elders_in n s) x ≡ drop passed (families 1 0 (elders_in n s)) → text_left n s most x ≡ page_of s passed most
 page_text s n passed most x p q =
     let os = orders_in 0 n s in
     let members = families 1 0 (elders_in n s) in
@@ -116,19 +116,19 @@ module _ (text before : List ℕ) where
   fitted : (t : Bool) → ltb (length before) (length text) ≡ t → text_answer text before ≡ cond t (refused 4 0) (value (length text))
   fitted t e = rw e
 
-  answered : (after : List ℕ) (x : SheetWritten) (answer : Answer ℕ) → text_answer text before ≡ answer → sheet_written_of x ≡ answer
+  answered : (after : List ℕ) (x : Result ℕ Refusal) (answer : Answer ℕ) → text_answer text before ≡ answer → answer_of x ≡ answer
       → after ≡ text_from answer text before → Pages text before x after
   answered after x answer e p q = record { said = p ∙ sym e; out = q ∙ ap (λ (a : Answer ℕ). text_from a text before) (sym e) }
 
   module _ (r : Bool) (e : r ≡ leb (length text) (length before)) where
-    pub page_refused : r ≡ false → Pages text before (Refused NoRoom) before
+    pub page_refused : r ≡ false → Pages text before (Err NoRoom) before
     page_refused f =
         let l = leb-false (length text) (length before) (sym e ∙ f) in
-        answered before (Refused NoRoom) (refused 4 0) (fitted true (lt-ltb (length before) (length text) l)) refl refl
+        answered before (Err NoRoom) (refused 4 0) (fitted true (lt-ltb (length before) (length text) l)) refl refl
 
     pub page_room : r ≡ true → length text ≤ length before
     page_room t = leb-true (length text) (length before) (sym e ∙ t)
 
-    pub page_written : {after : List ℕ} {k : ℕ} → r ≡ true → Wrote text before after k → Pages text before (Done k) after
+    pub page_written : {after : List ℕ} {k : ℕ} → r ≡ true → Wrote text before after k → Pages text before (Ok k) after
     page_written {after} {k} t w =
-        answered after (Done k) (value (length text)) (fitted false (le-ltb (length before) (length text) (page_room t))) (ap value w.long) w.out
+        answered after (Ok k) (value (length text)) (fitted false (le-ltb (length before) (length text) (page_room t))) (ap value w.long) w.out

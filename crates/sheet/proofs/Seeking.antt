@@ -4,15 +4,16 @@ use native.Mathlib.Numerals.{add-one}
 use native.Mathlib.Omega.{arith}
 use mathlib.Core.Path.{◌≡◌, refl, sym, ◌∙◌}
 use mathlib.Core.List.{List, [], ◌∷◌}
-use borrow.Author.Tests.{eq-eqb, ne_eqb}
+use borrow.Author.Tests.{eq-eqb, le-ltb, lt-ltb, ne_eqb}
 use lib.ListN.{length, drop, drop_of_length-le}
+use Rattle.std.specs.Prelude.{Some, None}
 use Rattle.day.specs.Damage.{elders_of}
 use Rattle.day.specs.Walk.{root_count}
 use Rattle.day.proofs.Orders.{length_elders}
 use Rattle.slot.specs.Slots.{order_in}
 use Rattle.slot.specs.Places.{slot, orders_in}
 use Rattle.slot.proofs.Laws.{length_orders}
-use Rattle.sheet.specs.Walk.{elders_in, seek}
+use Rattle.sheet.specs.Walk.{elders_in, found_before, seek}
 
 pub length_elders_in : (n : ℕ) (s : List ℕ) → length (elders_in n s) ≡ n
 length_elders_in n s = length_elders (orders_in 0 n s) ∙ length_orders 0 n s
@@ -33,26 +34,30 @@ elders_at n i s h = rw add-one (elders_from 0 n i i s h (omega arith))
 elders_end : (n i : ℕ) (s : List ℕ) → n ≤ i → drop i (elders_in n s) ≡ []
 elders_end n i s h = drop_of_length-le (elders_in n s) {i = i} (omega (arith, length_elders_in n s))
 
--- ---- the search for the first order with the elder e
+-- ---- the search for the first order that has no elder
 
--- none of those from a place on up to i has it
-pub record Sought (s : List ℕ) (n from e i : ℕ) : Type 0 where
+-- all those from a place on up to i have one
+pub record Sought (s : List ℕ) (n from i : ℕ) : Type 0 where
   pub inside : i ≤ n
-  pub same : seek e from (drop from (elders_in n s)) ≡ seek e i (drop i (elders_in n s))
+  pub same : seek 0 from (drop from (elders_in n s)) ≡ seek 0 i (drop i (elders_in n s))
 
-pub sought_none : {s : List ℕ} {n from e : ℕ} → from ≤ n → Sought s n from e from
+pub sought_none : {s : List ℕ} {n from : ℕ} → from ≤ n → Sought s n from from
 sought_none h = record { inside = h; same = refl }
 
-module _ {s : List ℕ} {n from e i : ℕ} (x : Sought s n from e i) where
-  pub sought_more : {v : ℕ} → i < n → v ≡ elder_in s i → (v ≡ e → ⊥) → Sought s n from e (i + 1)
+module _ {s : List ℕ} {n from i : ℕ} (x : Sought s n from i) where
+  pub sought_more : {v : ℕ} → i < n → v ≡ elder_in s i → (v ≡ 0 → ⊥) → Sought s n from (i + 1)
   sought_more {v} h q d =
-      record { inside = omega arith; same = x.same ∙ rw (elders_at n i s h, ne_eqb (elder_in s i) e (λ p. d (q ∙ p))) }
+      record { inside = omega arith; same = x.same ∙ rw (elders_at n i s h, ne_eqb (elder_in s i) 0 (λ p. d (q ∙ p))) }
 
-  pub sought_here : {v : ℕ} → i < n → v ≡ elder_in s i → v ≡ e → i ≡ seek e from (drop from (elders_in n s))
-  sought_here {v} h q p = sym (x.same ∙ rw (elders_at n i s h, eq-eqb (elder_in s i) e (sym q ∙ p)))
+  pub sought_here : {v : ℕ} → i < n → v ≡ elder_in s i → v ≡ 0 → Some i ≡ found_before n (seek 0 from (drop from (elders_in n s)))
+  sought_here {v} h q p =
+      let here : seek 0 from (drop from (elders_in n s)) ≡ i = x.same ∙ rw (elders_at n i s h, eq-eqb (elder_in s i) 0 (sym q ∙ p)) in
+      rw (here, lt-ltb i n h)
 
-  pub sought_all : n ≤ i → n ≡ seek e from (drop from (elders_in n s))
-  sought_all h = let k : i ≡ n = omega (arith, x.inside) in sym (x.same ∙ rw (elders_end n i s h) k)
+  pub sought_all : n ≤ i → None ≡ found_before n (seek 0 from (drop from (elders_in n s)))
+  sought_all h =
+      let none : seek 0 from (drop from (elders_in n s)) ≡ i = x.same ∙ rw (elders_end n i s h) in
+      rw (none, le-ltb i n h)
 
 -- ---- the count of the orders that have none
 

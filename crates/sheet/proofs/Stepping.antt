@@ -3,8 +3,8 @@ use Prim.Native.Nat.{ℕ, zero, suc, ◌+◌, ◌-◌, ◌≤◌, ◌<◌}
 use native.Mathlib.Omega.{arith}
 use mathlib.Core.Path.{◌≡◌, refl, sym, ap, ◌∙◌}
 use mathlib.Core.List.{List, [], ◌∷◌, ◌++◌}
-use borrow.Author.Tests.{lt-ltb, le-ltb}
 use lib.ListN.{length, drop, take, length-append}
+use Rattle.std.specs.Prelude.{Some, None}
 use lib.Seq.{drop-nil, take-nil}
 use Rattle.day.specs.Listing.{Member}
 use Rattle.day.specs.Walk.{member}
@@ -46,20 +46,14 @@ row_first n s x most w some =
 -- ---- no row
 
 pub none_wanted : (n : ℕ) (s : List ℕ) (x : Turn) (most : ℕ) (before : List ℕ) → Stands n x → most ≡ 0
-    → Went n s (members_from (elders_in n s) x) most before before (record { wrote = 0; next = x })
-none_wanted n s x most before w e =
-    rw e (record { text = record { long = refl; out = refl }; left = rw (lt-ltb x.place n w.inside); stands = λ h. w })
+    → Went n s (members_from (elders_in n s) x) most before before (record { wrote = 0; next = Some x })
+none_wanted n s x most before w e = rw e (record { text = record { long = refl; out = refl }; left = refl; stands = w })
 
-pub none_left : (n : ℕ) (s : List ℕ) (x : Turn) (most : ℕ) (before : List ℕ) (members : List Member) → n ≤ x.place → members ≡ []
-    → Went n s members most before before (record { wrote = 0; next = x })
-none_left n s x most before members h e =
+pub none_left : (n : ℕ) (s : List ℕ) (most : ℕ) (before : List ℕ) (members : List Member) → [] ≡ members
+    → Went n s members most before before (record { wrote = 0; next = None })
+none_left n s most before members e =
     let none : stretch_text n s most [] ≡ [] = rw take-nil in
-    rw e
-    (record {
-      text = rw none (record { long = refl; out = refl });
-      left = rw (le-ltb x.place n h, drop-nil);
-      stands = λ l. absurd (omega arith);
-    })
+    rw (← e) (record { text = rw none (record { long = refl; out = refl }); left = rw drop-nil; stands = tt })
 
 -- ---- a row is written, and a stretch of those behind it into what is lent on
 

@@ -1,12 +1,20 @@
 -- The younger order of each order, noted in one pass over their elders.
-use Rattle.std.specs.Prelude.{ℕ, ◌+◌, ◌≤◌, ◌<◌, ◌≡◌, cond, List, ltb, eqb, drop, get_or, length}
+use Rattle.std.specs.Prelude.{ℕ, ◌+◌, ◌≤◌, ◌<◌, ◌≡◌, cond, List, Option, Some, None, eqb, drop, get_or, length}
 use Rattle.run.specs.Found.{or_else}
 use Rattle.slot.specs.Places.{slot_at}
-use Rattle.sheet.specs.Walk.{elders_in, seek}
+use Rattle.sheet.specs.Walk.{elders_in, found_before, seek}
 
--- the younger order of the one at place i, or 0: the first order is nobody's younger one
+-- the younger order of the one at place i
+abbrev pub younger_order : List ℕ → ℕ → Option ℕ
+younger_order es i = found_before (length es) (seek (i + 1) (i + 1) (drop (i + 1) es))
+
+-- as it is noted, or 0: the first order is nobody's younger one
+abbrev pub as_noted : Option ℕ → ℕ
+as_noted None = 0
+as_noted (Some y) = y
+
 abbrev pub younger_of : List ℕ → ℕ → ℕ
-younger_of es i = let y = seek (i + 1) (i + 1) (drop (i + 1) es) in cond (ltb y (length es)) y 0
+younger_of es i = as_noted (younger_order es i)
 
 -- n orders are inside the table, and that of each is noted
 pub record Kin (n : ℕ) (s kin : List ℕ) : Type 0 where

@@ -1,11 +1,12 @@
 -- A page of the sheet: so many of its rows, from a row on. One row is a page too, which a later request (02, ticket 10) writes by its number.
-use Rattle.std.specs.Prelude.{ℕ, zero, suc, ◌+◌, ◌≡◌, List, [], ◌++◌, drop, take}
+use Rattle.std.specs.Prelude.{ℕ, zero, suc, ◌+◌, ◌≡◌, List, [], ◌++◌, Result, drop, take}
+use Rattle.refusal.specs.Answer.{answer_of}
+use Rattle.refusal.specs.declared.Refusal.{Refusal}
 use Rattle.day.specs.Listing.{Sheet}
 use Rattle.day.specs.Walk.{sheet_of}
 use Rattle.table.specs.Tables.{table_in}
-use Rattle.sheet.specs.Promises.{sheet_written_of, text_answer, text_from}
+use Rattle.sheet.specs.Promises.{text_answer, text_from}
 use Rattle.sheet.specs.Texts.{rows_text}
-use Rattle.sheet.specs.declared.SheetWritten.{SheetWritten}
 
 -- the rows behind so many others; none where there are no more
 abbrev pub page_of_sheet : Sheet → ℕ → ℕ → List ℕ
@@ -21,6 +22,6 @@ row_by_row s passed zero = []
 row_by_row s passed (suc k) = page_of s passed 1 ++ row_by_row s (passed + 1) k
 
 -- `sheet::page_sound`, of the text of a page
-pub record Pages (text before : List ℕ) (x : SheetWritten) (after : List ℕ) : Type 0 where
-  pub said : sheet_written_of x ≡ text_answer text before
+pub record Pages (text before : List ℕ) (x : Result ℕ Refusal) (after : List ℕ) : Type 0 where
+  pub said : answer_of x ≡ text_answer text before
   pub out : after ≡ text_from (text_answer text before) text before

@@ -1,11 +1,10 @@
 -- What writing the sheet promises.
-use Rattle.std.specs.Prelude.{ℕ, ◌≡◌, cond, List, ltb, length}
+use Rattle.std.specs.Prelude.{ℕ, ◌≡◌, cond, List, Result, ltb, length}
 use Rattle.std.proofs.lemmas.List.Edits.{sets}
-use Rattle.refusal.specs.Answer.{Answer, value, refused, refused_by}
+use Rattle.refusal.specs.Answer.{Answer, value, refused, answer_of}
+use Rattle.refusal.specs.declared.Refusal.{Refusal}
 use Rattle.table.specs.Tables.{table_in, sound}
 use Rattle.sheet.specs.Texts.{quotes_text, sheet_text}
-use Rattle.sheet.specs.declared.SheetWritten.{SheetWritten}
-use Rattle.sheet.specs.declared.SheetWritten.TheVariants.{Done, Refused}
 
 -- the text of a lent table
 abbrev pub text_of : List ℕ → List ℕ
@@ -14,11 +13,6 @@ text_of s = sheet_text (table_in s)
 -- 02, 1: the quote section of it
 abbrev pub section_of : List ℕ → List ℕ
 section_of s = quotes_text (table_in s).quotes
-
--- how many bytes were written, in the paper's terms
-abbrev pub sheet_written_of : SheetWritten → Answer ℕ
-sheet_written_of (Done n) = value n
-sheet_written_of (Refused x) = refused_by x
 
 -- 01, Refusals by number: 4: a text into a lent buffer
 abbrev pub text_answer : List ℕ → List ℕ → Answer ℕ
@@ -36,7 +30,7 @@ sheet_answer s before = cond (sound s) (text_answer (text_of s) before) (refused
 abbrev pub sheet_from : Answer ℕ → List ℕ → List ℕ → List ℕ
 sheet_from answer s before = text_from answer (text_of s) before
 
--- `sheet::write`: `after` is the lent buffer when it returns
-pub record Sheets (table before : List ℕ) (x : SheetWritten) (after : List ℕ) : Type 0 where
-  pub said : sheet_written_of x ≡ sheet_answer table before
+-- `sheet::write`: it answers how many bytes were written; `after` is the lent buffer when it returns
+pub record Sheets (table before : List ℕ) (x : Result ℕ Refusal) (after : List ℕ) : Type 0 where
+  pub said : answer_of x ≡ sheet_answer table before
   pub out : after ≡ sheet_from (sheet_answer table before) table before

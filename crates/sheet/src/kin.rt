@@ -1,7 +1,30 @@
 // The younger order of each order, noted in one pass: so a walk over all orders looks at each of them once.
-ghost use Rattle.std.specs.Prelude.{◌≤◌, ◌<◌, ◌≡◌, length, get_or};
+ghost use Rattle.std.specs.Prelude.{◌≤◌, ◌<◌, ◌≡◌, length};
 ghost use Rattle.slot.specs.Places.{slot_at};
-ghost use Rattle.sheet.specs.Kin.{Kin, Notes};
+ghost use Rattle.sheet.specs.Kin.{Kin, Notes, younger_order};
+ghost use Rattle.sheet.specs.Walk.{elders_in};
+
+// The first n orders of a table, and the younger one of each.
+#[derive(Drop)]
+pub struct Orders<'a> {
+    pub t: &'a [u8],
+    pub n: usize,
+    pub kin: &'a [u16],
+    pub ghost noted: { Kin n t.now kin.now },
+}
+
+impl Orders<'_> {
+    // 0 is noted where there is none, since the first order is nobody's younger one: two bytes an order are enough (fixed memory).
+    pub fn younger(&self, i: usize) -> Option<usize>
+        requires { i < self.now.n }
+        ensures { result ≡ younger_order (elders_in self.now.n self.now.t.now) i }
+    {
+        match self.kin[i] {
+            0 => None,
+            place => Some(place as usize),
+        }
+    }
+}
 
 // The order at place i is noted as the younger one of its elder, unless one is noted there; its own is not known yet. An elder that is not an earlier
 // order is passed over.
@@ -31,17 +54,7 @@ pub fn note_all(t: &[u8], n: usize, kin: &mut [u16])
     requires n_bound { n ≤ 65536 }
     ensures { Kin n t.now kin.new }
 {
-    let mut i = 0;
-    while i < n {
+    for i in 0..n {
         note(kin, i, slot::elder_at(t, i));
-        i += 1;
     }
-}
-
-// The younger order of the one at a place, or 0: the first order is nobody's younger one.
-pub fn younger(kin: &[u16], i: usize) -> usize
-    requires { i < length kin.now }
-    ensures { result ≡ get_or kin.now i 0 }
-{
-    kin[i] as usize
 }

@@ -12,12 +12,9 @@ pub fn length(t: &[u8]) -> usize
     ensures { result ≡ length (section_of t.now) }
 {
     let base = header::base(t.len());
-    let n = header::row_count(t);
     let mut long = 0;
-    let mut i = 0;
-    while i < n {
+    for i in 0..header::row_count(t) {
         long += row::quotes::length(t, base, i);
-        i += 1;
     }
     long
 }
@@ -29,12 +26,9 @@ pub fn write(t: &[u8], out: &mut [u8]) -> usize
     ensures { Wrote (section_of t.now) out.old out.new result }
 {
     let base = header::base(t.len());
-    let n = header::row_count(t);
     let mut wrote = 0;
-    let mut i = 0;
-    while i < n {
+    for i in 0..header::row_count(t) {
         wrote += row::quotes::write(t, base, i, &mut out[wrote..]);
-        i += 1;
     }
     wrote
 }

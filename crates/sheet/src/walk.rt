@@ -1,27 +1,11 @@
 // The walk over the orders of a table: down a family to its youngest order, then over to the next family.
-ghost use Rattle.std.specs.Prelude.{◌≤◌, ◌≡◌, length, drop};
+ghost use Rattle.std.specs.Prelude.{◌+◌, ◌≤◌, ◌≡◌, length, drop};
 ghost use Rattle.day.specs.Walk.{families, root_count};
 ghost use Rattle.slot.specs.Places.{slot_at};
-ghost use Rattle.sheet.specs.Walk.{Stands, StandsOrEnds, elders_in, members_behind, members_left, seek as walk_seek};
-ghost use Rattle.sheet.specs.Kin.{Kin};
+ghost use Rattle.sheet.specs.Walk.{Stands, StandsOrEnds, elders_in, families_from, found_before, members_behind, members_left, seek};
 
-use crate::{Turn, kin};
-
-// The first of n orders, from a place on, that has the elder e (1 is the first order, 0 is none), or n. A younger order is always later.
-pub fn seek(t: &[u8], n: usize, from: usize, e: u64) -> usize
-    requires n_in_bounds { slot_at n ≤ length t.now }
-    requires from_le_n { from ≤ n }
-    ensures { result ≡ walk_seek e from (drop from (elders_in n t.now)) }
-{
-    let mut i = from;
-    while i < n {
-        if slot::elder_at(t, i) == e {
-            return i;
-        }
-        i += 1;
-    }
-    n
-}
+use crate::Turn;
+use crate::kin::Orders;
 
 // How many of n orders have no elder.
 pub fn count_roots(t: &[u8], n: usize) -> u64
@@ -29,70 +13,73 @@ pub fn count_roots(t: &[u8], n: usize) -> u64
     ensures { result ≡ root_count (elders_in n t.now) }
 {
     let mut roots = 0;
-    let mut i = 0;
-    while i < n {
+    for i in 0..n {
         if slot::elder_at(t, i) == 0 {
             roots += 1;
         }
-        i += 1;
     }
     roots
 }
 
-// Where the walk starts: at the first order that has no elder.
-pub fn start(t: &[u8], n: usize) -> Turn
-    requires { slot_at n ≤ length t.now }
-    ensures result_value { members_left n (elders_in n t.now) result ≡ families 1 0 (elders_in n t.now) }
-    ensures stands_or_ends { StandsOrEnds n result }
-{
-    let root = seek(t, n, 0, 0);
-    Turn {
-        root,
-        place: root,
-        family: 1,
-        rank: 1,
-    }
-}
-
-// The turn behind a row.
-pub fn next(t: &[u8], kin: &[u16], n: usize, x: Turn) -> Turn
-    requires kin { Kin n t.now kin.now }
-    requires stands { Stands n x }
-    ensures result_value { members_left n (elders_in n t.now) result ≡ members_behind (elders_in n t.now) x }
-    ensures stands_or_ends { StandsOrEnds n result }
-{
-    let younger = kin::younger(kin, x.place);
-    if 0 < younger {
-        return Turn {
-            root: x.root,
-            place: younger,
-            family: x.family,
-            rank: x.rank + 1,
-        };
-    }
-    let root = seek(t, n, x.root + 1, 0);
-    Turn {
-        root,
-        place: root,
-        family: x.family + 1,
-        rank: 1,
-    }
-}
-
-// The turn behind so many rows.
-pub fn skip(t: &[u8], kin: &[u16], n: usize, count: usize) -> Turn
-    requires { Kin n t.now kin.now }
-    ensures result_value { members_left n (elders_in n t.now) result ≡ drop count (families 1 0 (elders_in n t.now)) }
-    ensures stands_or_ends { StandsOrEnds n result }
-{
-    let mut left = count;
-    let mut x = start(t, n);
-    while 0 < left {
-        if n <= x.place {
-            return x;
+impl Orders<'_> {
+    // The first order from a place on that has no elder.
+    fn root_from(&self, from: usize) -> Option<usize>
+        requires { from ≤ self.now.n }
+        ensures { result ≡ found_before self.now.n (seek 0 from (drop from (elders_in self.now.n self.now.t.now))) }
+    {
+        for i in from..self.n {
+            if slot::elder_at(self.t, i) == 0 {
+                return Some(i);
+            }
         }
-        left -= 1;
-        x = next(t, kin, n, x);
+        None
     }
-    x
+
+    // The first row of the families from a place on, the first of them numbered so.
+    pub fn family_from(&self, from: usize, family: u64) -> Option<Turn>
+        requires from_le_n { from ≤ self.now.n }
+        requires family_bound { family ≤ from + 1 }
+        ensures result_value { members_left (elders_in self.now.n self.now.t.now) result ≡ families_from (elders_in self.now.n self.now.t.now) from family }
+        ensures stands_or_ends { StandsOrEnds self.now.n result }
+    {
+        let root = self.root_from(from)?;
+        Some(Turn {
+            root,
+            place: root,
+            family,
+            rank: 1,
+        })
+    }
+
+    // Where the walk starts: at the first order that has no elder.
+    pub fn start(&self) -> Option<Turn>
+        ensures result_value { members_left (elders_in self.now.n self.now.t.now) result ≡ families 1 0 (elders_in self.now.n self.now.t.now) }
+        ensures stands_or_ends { StandsOrEnds self.now.n result }
+    {
+        self.family_from(0, 1)
+    }
+
+    // The turn behind a row.
+    pub fn next(&self, x: Turn) -> Option<Turn>
+        requires { Stands self.now.n x }
+        ensures result_value { members_left (elders_in self.now.n self.now.t.now) result ≡ members_behind (elders_in self.now.n self.now.t.now) x }
+        ensures stands_or_ends { StandsOrEnds self.now.n result }
+    {
+        match self.younger(x.place) {
+            Some(place) => Some(x.below(place)),
+            None => self.family_from(x.root + 1, x.family + 1),
+        }
+    }
+
+    // The turn behind so many rows.
+    pub fn skip(&self, count: usize) -> Option<Turn>
+        ensures result_value { members_left (elders_in self.now.n self.now.t.now) result ≡ drop count (families 1 0 (elders_in self.now.n self.now.t.now)) }
+        ensures stands_or_ends { StandsOrEnds self.now.n result }
+    {
+        let mut x = self.start()?;
+        for _ in 0..count {
+            x = self.next(x)?;
+        }
+        Some(x)
+    }
 }

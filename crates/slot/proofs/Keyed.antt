@@ -18,7 +18,6 @@ use Rattle.section.specs.Sections.{record_of, Holds, KeyOf}
 use Rattle.section.specs.declared.Section.{Section}
 use Rattle.section.proofs.Places.{key_in_record}
 use Rattle.index.specs.Searches.{has_key, earliest}
-use Rattle.index.specs.Indexes.{Indexed}
 use Rattle.index.proofs.Listed.{earliest_listed}
 use Rattle.slot.specs.Slots.{slot_width, key_in, key_bytes, order_in}
 use Rattle.slot.specs.Places.{slots, slot_keys, slot_at, slot, orders_in}
@@ -80,15 +79,6 @@ pub key_whole : (key : List ℕ) → length key ≡ 26 → take 26 key ≡ key
 key_whole key e = take_all 26 key (omega arith)
 
 module _ {keys : Section} (q : keys ≡ slot_keys) where
-  pub keys_held : (s : List ℕ) (n : ℕ) → slot_at n ≤ length s → Holds keys s n
-  keys_held s n h = let held : Holds slot_keys s n = record { apart = omega arith; inside = λ i l. omega arith } in rw q held
-
-  pub keys_indexed : {s : List ℕ} {n : ℕ} {heads nexts : List ℕ} → Indexed slot_keys s n heads nexts → Indexed keys s n heads nexts
-  keys_indexed x = rw q x
-
-  pub key_wide : (key : List ℕ) → length key ≡ 26 → length (take 26 key) ≡ keys.width
-  key_wide key e = rw (key_whole key e, q) e
-
   pub found_place : (s : List ℕ) (n : ℕ) (key : List ℕ) → length key ≡ 26 → {found : ℕ} → found ≡ earliest keys s n (take 26 key)
       → found ≡ place (key_in key) (orders_in 0 n s)
   found_place s n key e f = f ∙ rw (key_whole key e, q) (earliest_place s n key e)

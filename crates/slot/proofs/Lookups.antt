@@ -8,9 +8,8 @@ use Rattle.order.specs.declared.Order.{Order}
 use Rattle.day.specs.Machine.{nobody, found, find, place, amend}
 use Rattle.day.proofs.Firsts.{amend_first, find_first, find_none}
 use Rattle.day.proofs.Lookup.{key_finds, key_places, key_amends}
-use Rattle.slot.specs.Places.{place_no}
-use Rattle.slot.specs.Places.{orders_in}
-use Rattle.slot.specs.declared.Place.{Place}
+use Rattle.std.specs.Prelude.{Option}
+use Rattle.slot.specs.Places.{orders_in, place_no}
 
 pub at_found : (k : Key) (os : List Order) (i : ℕ) (none : Order) → place k os ≡ i + 1
     → (i < length os) × (find k os ≡ found (get_or os i none))
@@ -24,9 +23,5 @@ pub nobody_found : (k : Key) (os : List Order) → place k os ≡ 0 → find k o
 nobody_found k os e = find_none (key_places k) (key_finds k) os e
 
 -- the answer of a search for k, q being what it is known to be
-pub place_known : (os : List Order) (p q : Place) (k l : Key) → place_no p ≡ place k os → p ≡ q → k ≡ l → place l os ≡ place_no q
+pub place_known : (os : List Order) (p q : Option ℕ) (k l : Key) → place_no p ≡ place k os → p ≡ q → k ≡ l → place l os ≡ place_no q
 place_known os p q k l e f g = sym (ap (λ x. place x os) g) ∙ sym e ∙ ap place_no f
-
--- the same of a search among the first n
-pub place_is : (s : List ℕ) (p q : Place) (k : Key) (n m : ℕ) → place_no p ≡ place k (orders_in 0 n s) → p ≡ q → n ≡ m → place k (orders_in 0 m s) ≡ place_no q
-place_is s p q k n m e f h = sym (ap (λ i. place k (orders_in 0 i s)) h) ∙ place_known (orders_in 0 n s) p q k k e f refl

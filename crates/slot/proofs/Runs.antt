@@ -8,11 +8,10 @@ use lib.Seq.{sets}
 use Rattle.cell.specs.Cells.{le_bytes}
 use Rattle.run.proofs.Stores.{sets_append}
 use Rattle.cell.proofs.Laws.{length_le}
-use Rattle.order.specs.declared.Figures.{Figures}
 use Rattle.order.specs.declared.Key.{Key}
 use Rattle.order.specs.declared.Order.{Order}
 use Rattle.order.specs.declared.Series.{Series}
-use Rattle.slot.specs.Slots.{key_bytes, expiry_bytes, series_bytes, traded_bytes, figures_bytes, terms_bytes, slot_bytes}
+use Rattle.slot.specs.Slots.{key_bytes, series_bytes, figures_bytes, terms_bytes, slot_bytes}
 
 -- ---- runs of stores
 
@@ -40,9 +39,6 @@ then {before = l} {at = at} {w = w} {xs = xs} {ys = ys} a b e =
 pub length_key : (k : Key) → length k.source ≡ 6 → length k.token ≡ 20 → length (key_bytes k) ≡ 26
 length_key k e t = rw (length-append, e, t)
 
-length_expiry : (s : Series) → length s.root ≡ 6 → length (expiry_bytes s) ≡ 9
-length_expiry s e = simp (length-append, e)
-
 length_series : (s : Series) → length s.root ≡ 6 → length (series_bytes s) ≡ 14
 length_series s e = simp (length-append, e)
 
@@ -51,18 +47,13 @@ length_terms o a b d = simp (length-append, a, b, d)
 
 -- ---- an order, run by run
 
-pub expiry_stored : (s : Series) (at : ℕ) (l₀ : List ℕ) {l₁ l₂ l₃ l₄ : List ℕ} → length s.root ≡ 6 → l₁ ≡ sets l₀ (at + 27) s.root
+pub series_stored : (s : Series) (at : ℕ) (l₀ : List ℕ) {l₁ l₂ l₃ l₄ l₅ l₆ : List ℕ} → length s.root ≡ 6 → l₁ ≡ sets l₀ (at + 27) s.root
     → l₂ ≡ sets l₁ (at + 33) (s.month ∷ []) → l₃ ≡ sets l₂ (at + 34) (le_bytes 1 s.date) → l₄ ≡ sets l₃ (at + 35) (le_bytes 1 s.year)
-    → l₄ ≡ sets l₀ (at + 27) (expiry_bytes s)
-expiry_stored s at l₀ {l₁} wide root month date year =
+    → l₅ ≡ sets l₄ (at + 36) (s.denominator ∷ []) → l₆ ≡ sets l₅ (at + 37) (le_bytes 4 s.strike) → l₆ ≡ sets l₀ (at + 27) (series_bytes s)
+series_stored s at l₀ {l₁} wide root month date year denominator strike =
     let first : Stored l₀ (at + 27) 6 s.root l₁ = record { wide = wide; stored = root } in
-    (then (then (then first (byte s.month month) (omega arith)) (number 1 s.date date) (omega arith)) (number 1 s.year year) (omega arith)).stored
-
-pub series_stored : (s : Series) (at : ℕ) (l₀ : List ℕ) {l₁ l₂ l₃ : List ℕ} → length s.root ≡ 6 → l₁ ≡ sets l₀ (at + 27) (expiry_bytes s)
-    → l₂ ≡ sets l₁ (at + 36) (s.denominator ∷ []) → l₃ ≡ sets l₂ (at + 37) (le_bytes 4 s.strike) → l₃ ≡ sets l₀ (at + 27) (series_bytes s)
-series_stored s at l₀ {l₁} wide expiry denominator strike =
-    let first : Stored l₀ (at + 27) 9 (expiry_bytes s) l₁ = record { wide = length_expiry s wide; stored = expiry } in
-    (then (then first (byte s.denominator denominator) (omega arith)) (number 4 s.strike strike) (omega arith)).stored
+    let expiry = then (then (then first (byte s.month month) (omega arith)) (number 1 s.date date) (omega arith)) (number 1 s.year year) (omega arith) in
+    (then (then expiry (byte s.denominator denominator) (omega arith)) (number 4 s.strike strike) (omega arith)).stored
 
 -- key, side and series, as a slot begins
 pub opening_stored : (k : Key) (side : ℕ) (s : Series) (at : ℕ) (l₀ : List ℕ) {l₁ l₂ l₃ : List ℕ} → length k.source ≡ 6 → length k.token ≡ 20
@@ -86,11 +77,3 @@ module _ (o : Order) (at : ℕ) (l₀ : List ℕ) {l₁ l₂ l₃ l₄ : List �
       let first : Stored l₀ at 49 (terms_bytes o) l₁ = record { wide = length_terms o source token root; stored = terms } in
       let third : Stored l₂ (at + 51) 24 (figures_bytes o.figures) l₃ = record { wide = refl; stored = figures } in
       (then (then (then first (number 2 o.elder elder) refl) third (omega arith)) (number 5 0 rest) (omega arith)).stored
-
-pub figures_stored : (f : Figures) (at : ℕ) (l₀ : List ℕ) {l₁ l₂ l₃ l₄ : List ℕ} → l₁ ≡ sets l₀ (at + 51) (traded_bytes f)
-    → l₂ ≡ sets l₁ (at + 63) (le_bytes 4 f.cancelled) → l₃ ≡ sets l₂ (at + 67) (le_bytes 4 f.passed)
-    → l₄ ≡ sets l₃ (at + 71) (le_bytes 4 f.«open») → l₄ ≡ sets l₀ (at + 51) (figures_bytes f)
-figures_stored f at l₀ {l₁} traded cancelled passed left =
-    let first : Stored l₀ (at + 51) 12 (traded_bytes f) l₁ = record { wide = refl; stored = traded } in
-    (then (then (then first (number 4 f.cancelled cancelled) (omega arith)) (number 4 f.passed passed) (omega arith)) (number 4 f.«open» left) (omega arith)
-    ).stored

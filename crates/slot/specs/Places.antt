@@ -1,11 +1,10 @@
 -- docs/LAYOUT.md, The lent table: the slots one after another, and the answer of a lookup by key.
-use Rattle.std.specs.Prelude.{ℕ, ◌+◌, List}
+use Rattle.std.specs.Prelude.{ℕ, List}
 use Rattle.order.specs.declared.Order.{Order}
 use Rattle.section.specs.Sections.{start_of, record_of, records_in, Inside}
 use Rattle.section.specs.declared.Section.{Section}
 use Rattle.slot.specs.Slots.{slot_width, order_in}
-use Rattle.slot.specs.declared.Place.{Place}
-use Rattle.slot.specs.declared.Place.TheVariants.{At, Nobody}
+pub use Rattle.index.specs.Searches.{place_no}
 
 -- slots of 80 bytes, one right behind the other, behind the header
 abbrev pub slots : Section
@@ -28,8 +27,3 @@ SlotInside i s = Inside slots s i
 -- n orders, the first of them at slot i
 abbrev pub orders_in : ℕ → ℕ → List ℕ → List Order
 orders_in i n s = records_in order_in slots s i n
-
--- where an order was found: one more than its place, or 0
-abbrev pub place_no : Place → ℕ
-place_no (At i) = i + 1
-place_no Nobody = 0

@@ -6,7 +6,8 @@ ghost use Rattle.index.specs.Tags.{bucket_of};
 ghost use Rattle.slot.specs.Slots.{key_in};
 ghost use Rattle.slot.specs.Places.{slot_at, slot_keys, orders_in, place_no};
 
-use crate::{HEADER, KEY, Place, SLOT};
+use crate::{HEADER, KEY, SLOT};
+use index::Index;
 use section::Section;
 
 // The keys of a table's orders: what their index is built and kept over.
@@ -20,33 +21,37 @@ pub fn keys() -> Section
     }
 }
 
-// The place of an order by one more than it, or 0 for nobody.
-pub fn place_of(found: usize) -> Place
-    ensures { place_no result ≡ found }
-{
-    if found == 0 {
-        return Place::Nobody;
-    }
-    Place::At(found - 1)
-}
-
 // The earliest of the first n orders with the key.
-pub fn find(t: &[u8], n: usize, key: &[u8]) -> Place
+pub fn find(t: &[u8], n: usize, key: &[u8]) -> Option<usize>
     requires n_in_bounds { slot_at n ≤ length t.now }
     requires key_len { length key.now ≡ 26 }
     ensures { place_no result ≡ place (key_in key.now) (orders_in 0 n t.now) }
 {
     // A part whose length the compiler knows: it compares without a loop.
-    place_of(index::scan(t, keys(), n, &key[0..KEY]))
+    index::scan(t, keys(), n, &key[0..KEY])
 }
 
 // The same by an index of the keys, b being the key's bucket.
-pub fn find_indexed(t: &[u8], n: usize, heads: &[u16], nexts: &[u16], b: usize, key: &[u8]) -> Place
+pub fn find_indexed(
+    t: &[u8],
+    n: usize,
+    heads: &[u16],
+    nexts: &[u16],
+    b: usize,
+    key: &[u8],
+) -> Option<usize>
     requires indexed { Indexed slot_keys t.now n heads.now nexts.now }
     requires key_len { length key.now ≡ 26 }
     requires b_value { b ≡ bucket_of (length heads.now) key.now }
     ensures { place_no result ≡ place (key_in key.now) (orders_in 0 n t.now) }
 {
     // A part whose length the compiler knows, as above.
-    place_of(index::find_in(t, keys(), n, heads, nexts, b, &key[0..KEY]))
+    let index = Index {
+        t,
+        keys: keys(),
+        n,
+        heads,
+        nexts,
+    };
+    index.find_in(b, &key[0..KEY])
 }

@@ -6,9 +6,9 @@ pub mod offset;
 mod read;
 mod write;
 
-pub use finding::{find, find_indexed, keys, place_of};
+pub use finding::{find, find_indexed, keys};
 use order::{Figures, Series};
-pub use read::{asked_at, elder_at, figures_in, key_in, order_at, series_in};
+pub use read::{asked_at, elder_at, figures_in, key_in, order_at, series_in, slots};
 pub use write::{put_key, put_series, store, store_figures, store_price};
 
 // What stands before the first slot, a slot, and the key at the beginning of one: its Source, then its Token.
@@ -24,11 +24,4 @@ pub struct Asked {
     pub side: u8,
     pub series: Series,
     pub figures: Figures,
-}
-
-// The earliest order with a key.
-#[derive(Clone, Copy)]
-pub enum Place {
-    At(usize),
-    Nobody,
 }

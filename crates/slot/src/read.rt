@@ -1,31 +1,40 @@
 // An order read from the 80 bytes of its slot, by value.
 ghost use Rattle.std.specs.Prelude.{◌≤◌, ◌≡◌, length};
 ghost use Rattle.slot.specs.Slots.{slot_width, order_in, key_in, series_in, figures_in, asked_of};
-ghost use Rattle.slot.specs.Places.{slot, SlotInside};
+ghost use Rattle.slot.specs.Places.{slot, slots as places_slots, SlotInside};
 
-use crate::{Asked, HEADER, KEY, SLOT, offset};
+use crate::{Asked, HEADER, SLOT, offset};
 use order::{Figures, Key, Order, Series};
+use section::Section;
+
+// The slots of a table, whatever it holds.
+pub fn slots() -> Section
+    ensures { result ≡ places_slots }
+{
+    Section {
+        first: HEADER,
+        step: SLOT,
+        width: SLOT,
+    }
+}
 
 // b is the 80 bytes of a slot, or others that begin as a slot does.
 pub fn key_in(b: &[u8]) -> Key
     requires { 26 ≤ length b.now }
     ensures { result ≡ key_in b.now }
 {
-    let mut source = [0u8; 6];
-    run::copy(&mut source, &b[0..offset::TOKEN]);
-    let mut token = [0u8; 20];
-    run::copy(&mut token, &b[offset::TOKEN..KEY]);
-    Key { source, token }
+    Key {
+        source: run::array(b, 0),
+        token: run::array(b, offset::TOKEN),
+    }
 }
 
 pub fn series_in(b: &[u8]) -> Series
     requires { 41 ≤ length b.now }
     ensures { result ≡ series_in b.now }
 {
-    let mut root = [0u8; 6];
-    run::copy(&mut root, &b[offset::ROOT..offset::MONTH]);
     Series {
-        root,
+        root: run::array(b, offset::ROOT),
         month: b[offset::MONTH],
         date: cell::get(b, offset::DATE, 1),
         year: cell::get(b, offset::YEAR, 1),
@@ -66,8 +75,7 @@ pub fn order_at(t: &[u8], i: usize) -> Order
     requires { SlotInside i t.now }
     ensures { result ≡ order_in (slot t.now i) }
 {
-    let at = HEADER + SLOT * i;
-    order_in(&t[at..at + SLOT])
+    order_in(section::record(t, slots(), i))
 }
 
 fn asked_in(b: &[u8]) -> Asked
@@ -87,8 +95,7 @@ pub fn asked_at(t: &[u8], i: usize) -> Asked
     requires { SlotInside i t.now }
     ensures { result ≡ asked_of (order_in (slot t.now i)) }
 {
-    let at = HEADER + SLOT * i;
-    asked_in(&t[at..at + SLOT])
+    asked_in(section::record(t, slots(), i))
 }
 
 // The elder alone, for a walk over many orders.

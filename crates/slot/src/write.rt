@@ -4,7 +4,7 @@ ghost use Rattle.std.proofs.lemmas.List.Edits.{sets};
 ghost use Rattle.cell.specs.Cells.{le_bytes};
 ghost use Rattle.order.specs.declared.Figures.{Figures};
 ghost use Rattle.day.specs.Machine.{with_figures, with_price};
-ghost use Rattle.slot.specs.Slots.{slot_width, order_in, slot_bytes, key_bytes, expiry_bytes, series_bytes, traded_bytes, figures_bytes, terms_bytes};
+ghost use Rattle.slot.specs.Slots.{slot_width, order_in, slot_bytes, key_bytes, series_bytes, figures_bytes, terms_bytes};
 ghost use Rattle.slot.specs.Places.{slot, slot_at, SlotInside};
 
 use crate::{HEADER, SLOT, offset};
@@ -15,49 +15,30 @@ pub fn put_key(t: &mut [u8], at: usize, k: Key)
     requires { at + 26 ≤ length t.old }
     ensures { t.new ≡ sets t.old at (key_bytes k) }
 {
-    let source = k.source;
-    run::store(t, at, &source);
-    let token = k.token;
-    run::store(t, at + offset::TOKEN, &token);
+    run::store(t, at, &k.source);
+    run::store(t, at + offset::TOKEN, &k.token);
 }
 
-// In all that follow a slot begins at `at`. The first nine bytes of a series. A function of its own, since the prover reads only so many facts of one.
-fn put_expiry(t: &mut [u8], at: usize, s: Series)
-    requires { at + 41 ≤ length t.old }
-    ensures { t.new ≡ sets t.old (at + 27) (expiry_bytes s) }
-{
-    let root = s.root;
-    run::store(t, at + offset::ROOT, &root);
-    run::byte(t, at + offset::MONTH, s.month);
-    cell::put(t, at + offset::DATE, 1, s.date);
-    cell::put(t, at + offset::YEAR, 1, s.year);
-}
-
-// At its place behind key and side.
+// In all that follow a slot begins at `at`. A series, at its place behind key and side.
 pub fn put_series(t: &mut [u8], at: usize, s: Series)
     requires { at + 41 ≤ length t.old }
     ensures { t.new ≡ sets t.old (at + 27) (series_bytes s) }
 {
-    put_expiry(t, at, s);
+    run::store(t, at + offset::ROOT, &s.root);
+    run::byte(t, at + offset::MONTH, s.month);
+    cell::put(t, at + offset::DATE, 1, s.date);
+    cell::put(t, at + offset::YEAR, 1, s.year);
     run::byte(t, at + offset::DENOMINATOR, s.denominator);
     cell::put(t, at + offset::STRIKE, 4, s.strike);
-}
-
-// The first three figures.
-fn put_traded(t: &mut [u8], at: usize, f: Figures)
-    requires { at + slot_width ≤ length t.old }
-    ensures { t.new ≡ sets t.old (at + 51) (traded_bytes f) }
-{
-    cell::put(t, at + offset::SIZE, 4, f.size);
-    cell::put(t, at + offset::EXECUTED, 4, f.executed);
-    cell::put(t, at + offset::BROKEN, 4, f.broken);
 }
 
 fn put_figures(t: &mut [u8], at: usize, f: Figures)
     requires { at + slot_width ≤ length t.old }
     ensures { t.new ≡ sets t.old (at + 51) (figures_bytes f) }
 {
-    put_traded(t, at, f);
+    cell::put(t, at + offset::SIZE, 4, f.size);
+    cell::put(t, at + offset::EXECUTED, 4, f.executed);
+    cell::put(t, at + offset::BROKEN, 4, f.broken);
     cell::put(t, at + offset::CANCELLED, 4, f.cancelled);
     cell::put(t, at + offset::PASSED, 4, f.passed);
     cell::put(t, at + offset::OPEN, 4, f.open);

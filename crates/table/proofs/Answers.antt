@@ -1,12 +1,11 @@
 -- What the tests of the damage check say of its answer, over plain variables: one law for each way out.
 use Prim.Native.Nat.{ℕ, ◌≤◌, ◌<◌}
 use native.Mathlib.Omega.{arith}
-use mathlib.Core.Path.{◌≡◌, refl, sym, ap, ◌∙◌}
+use mathlib.Core.Path.{◌≡◌, refl, sym, ◌∙◌}
 use mathlib.Core.Bool.{Bool, true, false, not, ◌&&◌, false≢true}
 use mathlib.Core.List.{List}
-use borrow.Author.Tests.{lt-ltb, le-leb, lt-leb, eq-eqb, ne_eqb, not-true, not-false}
+use borrow.Author.Tests.{lt-ltb, le-leb, not-true, not-false}
 use lib.ListN.{length, get_or}
-use Rattle.table.specs.Passing.{is_marked, may_follow}
 use Rattle.table.specs.Tables.{limit_of, count_in, header_sound, slots_sound, rows_sound, sound}
 use Rattle.table.proofs.Sound.{sound_apart}
 
@@ -17,18 +16,6 @@ refuted r t e h = sym e ∙ not-true r h
 
 pub upheld : (r t : Bool) → r ≡ t → not r ≡ false → t ≡ true
 upheld r t e h = sym e ∙ not-false r h
-
--- ---- an elder
-
-module _ (flags : List ℕ) (i e : ℕ) where
-  pub not_earlier : i < e → false ≡ may_follow flags i e
-  not_earlier h = rw (lt-leb e i h)
-
-  pub no_elder : e ≤ i → e ≡ 0 → true ≡ may_follow flags i e
-  no_elder h z = rw (le-leb e i h, eq-eqb e 0 z)
-
-  pub some_elder : (r : Bool) → e ≤ i → (e ≡ 0 → ⊥) → r ≡ is_marked flags e → not r ≡ may_follow flags i e
-  some_elder r h z q = ap not q ∙ rw (le-leb e i h, ne_eqb e 0 z)
 
 -- ---- a table
 

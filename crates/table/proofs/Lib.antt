@@ -24,7 +24,7 @@ pub mod RowPasses
 pub mod Answers
 -- The empty table keeps its promise and is sound
 pub mod Making
--- Each way out of a host's question
+-- What a host asks for is there
 pub mod Asking
 -- Two outcomes that a promise allows are equal
 pub mod Determined

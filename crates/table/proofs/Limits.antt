@@ -91,10 +91,6 @@ limit_none len e = rw (ne_eqb len (table_length least_limit) e)
 pub slot_inside : (len i : ℕ) → i < limit_of len → slot_at i + slot_width ≤ len
 slot_inside len i h = omega (arith, limit_length len (omega arith))
 
--- where the quote rows begin, and that all of them are inside
-pub base_inside : (len : ℕ) → 0 < limit_of len → row_at (slot_at (limit_of len)) most_rows ≡ len
-base_inside len p = omega (arith, limit_length len p)
-
 pub rows_inside : (len n : ℕ) → 0 < limit_of len → n ≤ most_rows → row_at (slot_at (limit_of len)) n ≤ len
 rows_inside len n p h = omega (arith, limit_length len p)
 

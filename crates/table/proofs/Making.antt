@@ -9,6 +9,7 @@ use lib.Dec.{eqb}
 use borrow.Author.Tests.{lt-ltb, le-ltb, le-leb}
 use lib.ListN.{length, get_or, replicate, length-replicate}
 use lib.Seq.{sets, length-sets}
+use Rattle.std.specs.Prelude.{Ok, Err}
 use Rattle.refusal.specs.Answer.{value}
 use Rattle.refusal.specs.declared.Refusal.TheVariants.{NoRoom, Damaged}
 use Rattle.cell.specs.Cells.{le}
@@ -20,24 +21,23 @@ use Rattle.slot.specs.Places.{orders_in}
 use Rattle.quote.specs.Quotes.{most_rows}
 use Rattle.quote_slot.specs.QuoteSlots.{rows_in}
 use Rattle.table.specs.Tables.{table_length, least_limit, limit_of, count_in, row_count_in, base_in, sound, make_answer, made_from}
-use Rattle.table.specs.declared.Made.TheVariants.{Done, Refused}
 use Rattle.table.proofs.Holding.{Holds}
 use Rattle.table.proofs.Limits.{limit_is, limit_least, slots_inside}
 use Rattle.table.proofs.Sound.{holds_sound}
 
 -- ---- the three answers
 
-pub too_short : (s : List ℕ) → length s < table_length least_limit → Makes s (Refused NoRoom) s
+pub too_short : (s : List ℕ) → length s < table_length least_limit → Makes s (Err NoRoom) s
 too_short s h = let short = lt-ltb (length s) (table_length least_limit) h in record { said = rw short; out = rw short }
 
-pub no_meaning : (s : List ℕ) → table_length least_limit ≤ length s → limit_of (length s) ≡ 0 → Makes s (Refused Damaged) s
+pub no_meaning : (s : List ℕ) → table_length least_limit ≤ length s → limit_of (length s) ≡ 0 → Makes s (Err Damaged) s
 no_meaning s h z = let long = le-ltb (length s) (table_length least_limit) h in record { said = rw (long, z); out = rw (long, z) }
 
 -- a buffer whose length has a meaning is never refused
 pub taken : (s : List ℕ) → 0 < limit_of (length s) → make_answer s ≡ value tt
 taken s h = rw (le-ltb (length s) (table_length least_limit) (limit_least (length s) h), lt-ltb 0 (limit_of (length s)) h)
 
-pub made : (s after : List ℕ) → 0 < limit_of (length s) → after ≡ sets s 0 (replicate 8 0) → Makes s Done after
+pub made : (s after : List ℕ) → 0 < limit_of (length s) → after ≡ sets s 0 (replicate 8 0) → Makes s (Ok tt) after
 made s after h e = let answer = taken s h in record { said = sym answer; out = e ∙ ap (λ a. made_from a s) (sym answer) }
 
 -- ---- the table made

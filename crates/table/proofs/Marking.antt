@@ -1,13 +1,13 @@
--- Flags of numbers: none is up at first, marking one puts up that one and no other, and an order that is seen puts up one or two.
-use Prim.Native.Nat.{ℕ, zero, suc, ◌+◌, ◌<◌}
-use mathlib.Core.Path.{◌≡◌, refl, sym, ap, ◌∙◌}
-use mathlib.Core.Bool.{Bool, true, false, ◌||◌, or_assoc, or_comm, or-false}
+-- Flags of numbers: none is up at first, and marking one puts up that one and no other.
+use Prim.Native.Nat.{ℕ, zero, suc, ◌<◌}
+use mathlib.Core.Path.{◌≡◌, refl, ap}
+use mathlib.Core.Bool.{Bool, true, false, ◌||◌}
 use mathlib.Core.List.{List}
-use borrow.Author.Tests.{eqb-true, eqb-false, eq-eqb, ne_eqb}
+use borrow.Author.Tests.{eqb-true, eqb-false}
 use lib.Dec.{eqb}
 use lib.ListN.{length, get_or, set, replicate, length-set}
 use lib.Seq.{get_or-set_same, get_or-set_other}
-use Rattle.table.specs.Passing.{Marks, Passes, is_marked}
+use Rattle.table.specs.Passing.{Marks, is_marked}
 
 pub none_marked : (n x : ℕ) → is_marked (replicate n 0) x ≡ false
 unfolding is_marked
@@ -25,19 +25,3 @@ marked_set flags e x h = go (eqb x e) refl
 
 pub marks_set : (flags : List ℕ) (e : ℕ) → e < length flags → Marks e flags (set flags e 1)
 marks_set flags e h = record { room = length-set flags e 1; says = λ x. marked_set flags e x h }
-
--- ---- an order is seen
-
-module _ (i e n : ℕ) {before : List ℕ} where
-  pub passes_shut : {after : List ℕ} → n ≡ 0 → Marks e before after → Passes i e n before after
-  passes_shut z m = record { room = m.room; says = λ x. m.says x ∙ rw (eq-eqb n 0 z, or-false (eqb x e)) }
-
-  pub passes_open : {then after : List ℕ} → (n ≡ 0 → ⊥) → Marks e before then → Marks (i + 1) then after → Passes i e n before after
-  passes_open z m k =
-      record {
-        room = k.room ∙ m.room;
-        says = λ x. k.says x ∙ rw (m.says x, ne_eqb n 0 z) (also (eqb x (i + 1)) (eqb x e) (is_marked before x));
-      }
-    where
-      also : (a b c : Bool) → (a || (b || c)) ≡ (b || a || c)
-      also a b c = sym (or_assoc a b c) ∙ ap (λ t. t || c) (or_comm a b)

@@ -103,11 +103,6 @@ length_row_appended w s =
     length-sets (sets s (row_at (base_in s) (row_count_in s)) (row_bytes w)) 5 ((row_count_in s + 1) ∷ [])
     ∙ length-sets s (row_at (base_in s) (row_count_in s)) (row_bytes w)
 
-pub one_row_more : (s u v : List ℕ) (n : ℕ) (w : QuoteRow) → n ≡ row_count_in s → u ≡ sets s (row_at (base_in s) n) (row_bytes w) → v ≡ sets u 5 ((n + 1) ∷ [])
-    → v ≡ row_appended w s
-one_row_more s u v n w e f g =
-    g ∙ ap (λ x. sets x 5 ((n + 1) ∷ [])) f ∙ ap (λ m. sets (sets s (row_at (base_in s) m) (row_bytes w)) 5 ((m + 1) ∷ [])) e
-
 module _ (s : List ℕ) (w : QuoteRow) where
   abbrev at : ℕ
   at = row_at (base_in s) (row_count_in s)

@@ -18,12 +18,11 @@ use Rattle.table.specs.Tables.{limit_of, row_count_in, base_in, rows_sound}
 
 -- those from row i on decide for all of n
 pub record RowsPassed (base n : ℕ) (s : List ℕ) (i : ℕ) : Type 0 where
-  pub inside : i ≤ n
   pub rest : all_rows_sound (rows_in base n s) ≡ all_rows_sound (records_in row_in (rows base) s i (n - i))
 
 module _ {base n : ℕ} {s : List ℕ} where
   pub none_passed : RowsPassed base n s 0
-  none_passed = record { inside = omega arith; rest = rw sub-zero }
+  none_passed = record { rest = rw sub-zero }
 
   module _ {i : ℕ} (p : RowsPassed base n s i) where
     pub all_passed : n ≤ i → true ≡ all_rows_sound (rows_in base n s)
@@ -39,7 +38,7 @@ module _ {base n : ℕ} {s : List ℕ} where
       row_stops f = sym (one_more ∙ rw f)
 
       pub row_passed : sound_row w ≡ true → RowsPassed base n s (i + 1)
-      row_passed t = record { inside = omega arith; rest = one_more ∙ rw t }
+      row_passed t = record { rest = one_more ∙ rw t }
 
 -- ---- all rows of a table
 

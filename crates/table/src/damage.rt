@@ -26,8 +26,7 @@ fn sound_slots(t: &[u8], n: usize) -> bool
     ensures { result ≡ slots_sound t.now }
 {
     let mut flags = [0u8; FLAGS];
-    let mut i = 0;
-    while i < n {
+    for i in 0..n {
         let o = slot::order_at(t, i);
         let e = o.elder as usize;
         let open = o.figures.open;
@@ -38,7 +37,6 @@ fn sound_slots(t: &[u8], n: usize) -> bool
             return false;
         }
         elders::pass(&mut flags, i, e, open);
-        i += 1;
     }
     true
 }
@@ -48,12 +46,10 @@ fn each_sound(t: &[u8], base: usize, n: usize) -> bool
     requires { row_at base n ≤ length t.now }
     ensures { result ≡ all_rows_sound (rows_in base n t.now) }
 {
-    let mut i = 0;
-    while i < n {
+    for i in 0..n {
         if !quote::sound_row(quote_slot::row_at(t, base, i)) {
             return false;
         }
-        i += 1;
     }
     true
 }

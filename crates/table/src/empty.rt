@@ -1,19 +1,19 @@
 // Making the empty table in a lent buffer.
 ghost use Rattle.table.specs.Promises.{Makes};
 
-use crate::{Made, TABLE, header};
+use crate::{TABLE, header};
 use refusal::Refusal;
 
 // Only the header is written: free slots keep whatever they hold.
-pub fn make_empty(t: &mut [u8]) -> Made
+pub fn make_empty(t: &mut [u8]) -> Result<(), Refusal>
     ensures { Makes t.old result t.new }
 {
     if t.len() < TABLE {
-        return Made::Refused(Refusal::NoRoom);
+        return Err(Refusal::NoRoom);
     }
     if header::limit(t.len()) == 0 {
-        return Made::Refused(Refusal::Damaged);
+        return Err(Refusal::Damaged);
     }
     header::clear(t);
-    Made::Done
+    Ok(())
 }

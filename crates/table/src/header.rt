@@ -13,7 +13,7 @@ const SPARE: usize = 6;
 
 const SPARES: usize = HEADER - SPARE;
 
-// How many orders a table of so many bytes has room for, or 0.
+// How many orders a table of so many bytes has room for, or 0: `base` computes with it whatever the length is, as `limit_of` of the specs is defined.
 pub fn limit(len: usize) -> u64
     ensures { result ≡ limit_of len }
 {

@@ -13,7 +13,6 @@ mod rows;
 pub use asked::{copy_order, copy_row, look_up};
 pub use empty::make_empty;
 pub use orders::append;
-use refusal::Refusal;
 pub use rows::{append_row, find_row, row_at, store_row};
 
 // The most orders that a table holds, and its bytes. `header::limit` says which lengths have a meaning.
@@ -22,17 +21,3 @@ pub const LIMIT: u64 = 512;
 pub const TABLE: usize = slot::HEADER
     + slot::SLOT * LIMIT as usize
     + quote_slot::ROW * quote::MOST_ROWS;
-
-// The answer of a lookup for a host.
-#[derive(Clone, Copy)]
-pub enum Found {
-    At(usize),
-    Refused(Refusal),
-}
-
-// The answer of what is made in a lent buffer: an empty table, a copy of an order.
-#[derive(Clone, Copy)]
-pub enum Made {
-    Done,
-    Refused(Refusal),
-}

@@ -9,7 +9,6 @@ ghost use Rattle.table.specs.Tables.{base_in, row_count_in, sound, table_in};
 
 use crate::header;
 use quote::{Quote, QuoteRow};
-use slot::Place;
 
 pub fn row_at(t: &[u8], i: usize) -> QuoteRow
     requires { RowInside (base_in t.now) i t.now }
@@ -19,7 +18,7 @@ pub fn row_at(t: &[u8], i: usize) -> QuoteRow
 }
 
 // The row of a quote. 128 rows are few enough to look through.
-pub fn find_row(t: &[u8], q: Quote) -> Place
+pub fn find_row(t: &[u8], q: Quote) -> Option<usize>
     requires t_value { sound t.now ≡ true }
     requires fits_quote { FitsQuote q }
     ensures { place_no result ≡ row_place q (table_in t.now).quotes }

@@ -1,76 +1,44 @@
--- Checking one field after another: what a field's test makes of the check.
-use Prim.Native.Nat.{ℕ, suc, ◌<◌, ◌^◌}
-use mathlib.Core.Path.{◌≡◌, sym, ◌∙◌}
-use mathlib.Core.Bool.{Bool, true, false, cond, ◌&&◌}
-use mathlib.Core.List.{List, [], ◌∷◌}
-use borrow.Author.Tests.{eq-eqb}
-use lib.Dec.{eqb, leb, ltb, leb-zero}
-use lib.ListN.{length, drop}
-use lib.Seq.{drop-cons}
-use Rattle.run.specs.Runs.{member}
-use Rattle.field.specs.Verbatim.{lawful_if}
-use Rattle.field.specs.declared.Bytes.{Bytes}
-use Rattle.field.specs.declared.Bytes.TheVariants.{Lawful, Unlawful}
-use Rattle.message.specs.Fields.{no_field, first_unlawful}
-use Rattle.message.specs.Rule.{code, verbatim, text, blank, Kind, is_kind, num, run, lawful}
-use Rattle.message.specs.Values.{one}
-use Rattle.field.proofs.Returns.{lawful_true, unlawful_false}
-use Rattle.layout.specs.Layout.{liquidities, is_trade}
-use Rattle.layout.specs.Line.{layout_for}
-use Rattle.layout.specs.Records.{fields_of, type_of, trade_of}
+-- Checking a record a group of fields at a time.
+use Prim.Native.Nat.{ℕ, zero, suc, ◌<◌}
+use mathlib.Core.Path.{◌≡◌, refl, ap, ◌∙◌}
+use mathlib.Core.Bool.{true}
+use mathlib.Core.List.{List, ◌++◌}
+use native.Mathlib.Omega.{arith}
+use borrow.Author.Tests.{ne_eqb}
+use lib.Dec.{lit<}
+use lib.ListN.{length, take, drop}
+use Rattle.std.specs.Prelude.{Result, Ok, Err}
+use Rattle.run.specs.Found.{or_else}
+use Rattle.refusal.specs.declared.Refusal.{Refusal}
+use Rattle.message.specs.Fields.{Field, placed, first_unlawful}
+use Rattle.message.specs.Rule.{Value}
+use Rattle.message.proofs.Groups.{first_append}
+use Rattle.layout.specs.Line.{layout_for, unlawful}
+use Rattle.layout.specs.Records.{fields_of}
 use Rattle.layout.specs.declared.Record.{Record}
-use Rattle.layout.specs.ByType.{bytes_on}
-use Rattle.layout.proofs.ByType.{lawful_if_is, price_most}
-use Rattle.writing.specs.Writes.{check_of, check_from}
-use Rattle.record.proofs.Events.{liquidity_value}
-use Rattle.writing.proofs.Fields.{field_for, lawful_at}
+use Rattle.writing.specs.Writes.{check_of, check_group}
 
--- the fields from one to another are lawful, so the answer is that of those behind them
-abbrev pub Past : ℕ → ℕ → Record → Type 0
-Past from to r = check_from to r ≡ check_from from r
+-- one check, and where it finds nothing the other
+abbrev pub then_check : Result (Unit {0}) Refusal → Result (Unit {0}) Refusal → Result (Unit {0}) Refusal
+then_check (Ok u) y = y
+then_check (Err x) y = Err x
 
--- a lawful field leaves the answer to those behind it, an unlawful one is named
-pub judged : (k : ℕ) (r : Record) {t : Bool} → k < 24 → lawful_at r k ≡ t
-    → check_of (cond t (first_unlawful (drop (suc k) (layout_for r)) (drop (suc k) (fields_of r))) (field_for r k).no) ≡ check_from k r
-judged k r h e = rw (drop-cons (layout_for r) k no_field h, drop-cons (fields_of r) k (num 0) h, e)
+check_else : (a b : ℕ) → check_of (or_else a b) ≡ then_check (check_of a) (check_of b)
+check_else zero b = refl
+check_else (suc a) b = rw (ne_eqb (suc a) 0 (omega arith))
 
--- by a test of the field
-module _ (k : ℕ) (r : Record) {b : Bool} (h : k < 24) (e : b ≡ lawful_at r k) where
-  pub test_passes : b ≡ true → Past k (suc k) r
-  test_passes t = judged k r h (sym e ∙ t)
+check_append : (fs gs : List Field) (vs us : List Value) (n at : ℕ) → 0 < n → placed n at fs ≡ true → length vs ≡ length fs
+    → check_of (first_unlawful (fs ++ gs) (vs ++ us)) ≡ then_check (check_of (first_unlawful fs vs)) (check_of (first_unlawful gs us))
+check_append fs gs vs us n at p t l = ap check_of (first_append fs gs vs us n at p t l) ∙ check_else (first_unlawful fs vs) (first_unlawful gs us)
 
-  pub test_fails : b ≡ false → check_of (field_for r k).no ≡ check_from k r
-  test_fails t = judged k r h (sym e ∙ t)
-
--- by what a reader answers of the field's bytes
-module _ (k : ℕ) (r : Record) {x : Bytes} (h : k < 24) (e : x ≡ lawful_if (lawful_at r k)) where
-  pub verbatim_passes : x ≡ Lawful → Past k (suc k) r
-  verbatim_passes t = judged k r h (lawful_true (lawful_at r k) (sym e ∙ t))
-
-  pub verbatim_fails : x ≡ Unlawful → check_of (field_for r k).no ≡ check_from k r
-  verbatim_fails t = judged k r h (unlawful_false (lawful_at r k) (sym e ∙ t))
-
--- ---- the tests of the fields
-
--- a kind of bytes, of the field's length
-pub kind_is : (k : Kind) (w : ℕ) (b : List ℕ) → length b ≡ w → lawful_if (is_kind k b) ≡ lawful_if (lawful (verbatim k) w (run b))
-kind_is k w b l = rw (eq-eqb (length b) w l)
-
--- a kind that stands on some types only
-kind_on : (on : Bool) (k : Kind) (w : ℕ) (b : List ℕ) → length b ≡ w → bytes_on on (verbatim k) b ≡ lawful_if (lawful (cond on (verbatim k) (verbatim blank)) w (run b))
-kind_on true k w b l = sym (lawful_if_is (is_kind k b) b) ∙ kind_is k w b l
-kind_on false k w b l = sym (lawful_if_is (is_kind blank b) b) ∙ kind_is blank w b l
-
--- a code that stands on some types only
-code_on : (on : Bool) (codes : List ℕ) (b : ℕ) → bytes_on on (code codes) (b ∷ []) ≡ lawful_if (lawful (cond on (code codes) (verbatim blank)) 1 (one b))
-code_on true codes b = sym (lawful_if_is (member b codes) (b ∷ []))
-code_on false codes b = sym (lawful_if_is (is_kind blank (b ∷ [])) (b ∷ []))
-
-pub liquidity_is : (r : Record) → bytes_on (is_trade (type_of r.event)) (code liquidities) ((trade_of r.event).liquidity ∷ []) ≡ lawful_if (lawful_at r 5)
-liquidity_is r = code_on (is_trade (type_of r.event)) liquidities (trade_of r.event).liquidity ∙ rw (liquidity_value r.event)
-
-pub replaced_is : (r : Record) → length r.replaced ≡ 20 → bytes_on (eqb (type_of r.event) 85) (verbatim text) r.replaced ≡ lawful_if (lawful_at r 11)
-replaced_is r l = kind_on (eqb (type_of r.event) 85) text 20 r.replaced l
-
-pub price_is : (v : ℕ) → (leb 0 v && leb v 9999999999) ≡ ltb v (10 ^ 10)
-price_is v = rw (leb-zero v) (price_most v)
+pub all_groups : (r : Record)
+    → check_of (unlawful r)
+    ≡ then_check (check_group 0 6 r) (then_check (check_group 6 12 r) (then_check (check_group 12 17 r) (then_check (check_group 17 22 r) (check_group 22 24 r))))
+unfolding unlawful
+all_groups r =
+    let l = layout_for r in
+    let v = fields_of r in
+    check_append (take 6 l) (drop 6 l) (take 6 v) (drop 6 v) 1 0 (lit< tt) refl refl
+    ∙ ap (then_check (check_group 0 6 r)) (check_append (take 6 (drop 6 l)) (drop 12 l) (take 6 (drop 6 v)) (drop 12 v) 7 16 (lit< tt) refl refl
+    ∙ ap (then_check (check_group 6 12 r)) (check_append (take 5 (drop 12 l)) (drop 17 l) (take 5 (drop 12 v)) (drop 17 v) 13 76 (lit< tt) refl refl
+    ∙ ap (then_check (check_group 12 17 r)) (check_append (take 5 (drop 17 l)) (drop 22 l) (take 5 (drop 17 v)) (drop 22 v) 18 99 (lit< tt) refl refl)))

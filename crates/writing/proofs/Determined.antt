@@ -1,18 +1,12 @@
--- Two outcomes that the promise allows are equal.
+-- Two answers that the promise allows are equal.
 use Prim.Native.Nat.{ℕ}
-use mathlib.Core.Path.{◌≡◌, sym, ap, ◌∙◌}
+use mathlib.Core.Path.{◌≡◌, sym, ◌∙◌}
 use mathlib.Core.List.{List}
-use Rattle.refusal.proofs.OneNumber.{one_refusal}
+use Rattle.std.specs.Prelude.{Result}
+use Rattle.refusal.specs.declared.Refusal.{Refusal}
 use Rattle.layout.specs.declared.Record.{Record}
-use Rattle.writing.specs.Promises.{wrote_of, Write}
-use Rattle.writing.specs.declared.Written.{Written}
-use Rattle.writing.specs.declared.Written.TheVariants.{Done, Refused}
+use Rattle.layout.proofs.OneAnswer.{one_answer}
+use Rattle.writing.specs.Promises.{Write}
 
-one_written : (x y : Written) → wrote_of x ≡ wrote_of y → x ≡ y
-one_written Done Done e = cc
-one_written Done (Refused y) e = cc
-one_written (Refused x) Done e = cc
-one_written (Refused x) (Refused y) e = ap Refused (one_refusal x y (cc) (cc))
-
-pub write_determined : (r : Record) (before : List ℕ) (x y : Written) (a b : List ℕ) → Write r before x a → Write r before y b → (x ≡ y) × (a ≡ b)
-write_determined r before x y a b p q = (one_written x y (p.said ∙ sym q.said), p.out ∙ sym q.out)
+pub write_determined : (r : Record) (before : List ℕ) (x y : Result (Unit {0}) Refusal) (a b : List ℕ) → Write r before x a → Write r before y b → (x ≡ y) × (a ≡ b)
+write_determined r before x y a b p q = (one_answer x y (p.said ∙ sym q.said), p.out ∙ sym q.out)

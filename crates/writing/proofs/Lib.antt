@@ -1,10 +1,10 @@
 -- A record's 24 rows with their values and bytes
 pub mod Fields
--- A lawful field is passed over, an unlawful one named
+-- A check of all fields, by that of each group
 pub mod Checks
 -- Runs stored one behind another make up the line
 pub mod Puts
--- Each way out of writing a record keeps the promise
+-- A record that is written is its line
 pub mod Writings
--- Two outcomes that the promise allows are equal
+-- Two answers that the promise allows are equal
 pub mod Determined

@@ -4,23 +4,21 @@ ghost use Rattle.std.proofs.lemmas.List.Edits.{sets};
 ghost use Rattle.writing.specs.Promises.{Write};
 ghost use Rattle.writing.specs.Writes.{id_text, line_from};
 
-use crate::{Checked, Written, lawful};
+use crate::lawful;
 use field::put;
 use layout::Record;
 use refusal::Refusal;
 
 // Any record, into a buffer of any length. On a refusal no byte of it is changed.
-pub fn write(r: Record, out: &mut [u8]) -> Written
+pub fn write(r: Record, out: &mut [u8]) -> Result<(), Refusal>
     ensures { Write r out.old result out.new }
 {
     if out.len() < layout::LINE {
-        return Written::Refused(Refusal::NoRoom);
+        return Err(Refusal::NoRoom);
     }
-    if let Checked::Unlawful(n) = lawful::check(r) {
-        return Written::Refused(Refusal::Field(n));
-    }
+    lawful::check(r)?;
     event_fields(r, out);
-    Written::Done
+    Ok(())
 }
 
 // A match or cross id, blank where the event carries none.
@@ -30,9 +28,9 @@ fn id(out: &mut [u8], at: usize, trade: bool, v: u64)
 {
     if trade {
         put::filled(out, at, 9, v, b' ');
-        return;
+    } else {
+        run::store(out, at, b"         ");
     }
-    run::store(out, at, b"         ");
 }
 
 // Fields 1 to 6.
@@ -40,12 +38,10 @@ fn event_fields(r: Record, out: &mut [u8])
     requires { 140 ≤ length out.old }
     ensures { out.new ≡ sets out.old 0 (line_from 0 r) }
 {
-    let event = r.event;
-    let trade = record::trade_of(event);
-    let firm = r.firm;
+    let trade = record::trade_of(r.event);
     put::filled(out, 0, 8, r.timestamp, b' ');
-    run::byte(out, 8, record::type_of(event));
-    run::store(out, 9, &firm);
+    run::byte(out, 8, record::type_of(r.event));
+    run::store(out, 9, &r.firm);
     run::byte(out, 13, r.capacity);
     run::byte(out, 14, r.position);
     run::byte(out, 15, trade.liquidity);
@@ -57,18 +53,12 @@ fn account_fields(r: Record, out: &mut [u8])
     requires { 140 ≤ length out.old }
     ensures { out.new ≡ sets out.old 16 (line_from 6 r) }
 {
-    let account = r.account;
-    run::store(out, 16, &account);
-    let member = r.member;
-    run::store(out, 20, &member);
-    let clearing = r.clearing;
-    run::store(out, 25, &clearing);
-    let source = r.source;
-    run::store(out, 30, &source);
-    let token = r.token;
-    run::store(out, 36, &token);
-    let replaced = r.replaced;
-    run::store(out, 56, &replaced);
+    run::store(out, 16, &r.account);
+    run::store(out, 20, &r.member);
+    run::store(out, 25, &r.clearing);
+    run::store(out, 30, &r.source);
+    run::store(out, 36, &r.token);
+    run::store(out, 56, &r.replaced);
     order_fields(r, out);
 }
 
@@ -77,12 +67,10 @@ fn order_fields(r: Record, out: &mut [u8])
     requires { 140 ≤ length out.old }
     ensures { out.new ≡ sets out.old 76 (line_from 12 r) }
 {
-    let reference = r.reference;
-    run::store(out, 76, &reference);
+    run::store(out, 76, &r.reference);
     run::byte(out, 85, r.side);
     put::filled(out, 86, 6, r.contracts, b' ');
-    let root = r.root;
-    run::store(out, 92, &root);
+    run::store(out, 92, &r.root);
     run::byte(out, 98, r.month);
     price_fields(r, out);
 }
@@ -105,9 +93,8 @@ fn trade_fields(r: Record, out: &mut [u8])
     requires { 140 ≤ length out.old }
     ensures { out.new ≡ sets out.old 120 (line_from 22 r) }
 {
-    let event = r.event;
-    let trade = record::trade_of(event);
-    let on = layout::is_trade(record::type_of(event));
+    let trade = record::trade_of(r.event);
+    let on = layout::is_trade(record::type_of(r.event));
     id(out, 120, on, trade.match_id);
     id(out, 129, on, trade.cross_id);
     run::store(out, layout::FIELDS, b"\r\n");

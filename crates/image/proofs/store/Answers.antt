@@ -8,4 +8,5 @@ slice_bounds-store-end c = omega (arith, said_length c.args.piece.now c.args.r c
 
 pub returns : goal.returns
 returns c =
-    image_stored c.args.piece.now c.args.out.now c.args.r _ _ _ _ _ c.requires.piece_value c.requires.in_bounds c.store.ensures c.put_early.ensures c.put_late.ensures c.trade_of.ensures c.put_ids.ensures
+    let a = c.args in
+    image_stored a.piece.now a.out.now a.r _ _ c.requires.piece_value c.requires.in_bounds c.store.ensures c.put_numbers.ensures

@@ -7,9 +7,8 @@ use Rattle.saving.proofs.Bounds.{front_room}
 use Rattle.saving.proofs.Steps.{measure_first, measure_next, measured, front_too_long, entry_too_long}
 use Rattle.saving.proofs.fits.Goals as goal
 
-pub put_front-front-requires : goal.put_front-front-requires
-put_front-front-requires c =
-    record { t_value = c.requires; t_in_bounds = omega (arith, front_room c.args.t.now) }
+pub put_front-front-requires-clause-t_in_bounds : goal.put_front-front-requires-clause-t_in_bounds
+put_front-front-requires-clause-t_in_bounds c = omega (arith, front_room c.args.t.now)
 
 pub returns-then-space-front : goal.returns-then-space-front
 returns-then-space-front c =
@@ -18,12 +17,7 @@ returns-then-space-front c =
 pub loop-i-init : goal.loop-i-init
 loop-i-init c =
     let room : length c.put_front-front.new.out ≡ 115 = search rules in
-    (room, measure_first c.args.t.now c.put_front-front.ensures.next c.entries-n.ensures c.if-space-front.false)
-
-pub put_entry-long-requires : goal.put_entry-long-requires
-put_entry-long-requires c =
-    let inv = c.loop-i.invariant in
-    record { t_value = c.requires; k_bound = omega (arith, inv.1.count, c.loop-i-test.true); in_bounds = omega (arith, inv.0) }
+    (room, measure_first c.args.t.now c.put_front-front.ensures.next c.entries-i-end.ensures c.if-space-front.false)
 
 pub returns-then-left-long : goal.returns-then-left-long
 returns-then-left-long c =

@@ -4,7 +4,7 @@ use native.Mathlib.Omega.{arith}
 use lib.ListN.{length}
 use Rattle.saving.specs.Saving.{entry_no}
 use Rattle.saving.proofs.Bounds.{entry_room}
-use Rattle.saving.proofs.Steps.{text_inside, text_there, text_laid}
+use Rattle.saving.proofs.Steps.{text_inside, text_laid}
 use Rattle.saving.proofs.lay_entry.Goals as goal
 use Rattle.saving.proofs.lay_entry.Goals.{Start}
 
@@ -14,10 +14,6 @@ has_room c = omega (arith, entry_room c.args.t.now c.requires.t_value c.args.k c
 
 pub slice_bounds-store-end : goal.slice_bounds-store-end
 slice_bounds-store-end c = text_inside c.put_entry-long.ensures (has_room (goal.at.slice_bounds-store-end c).Start)
-
-pub store-requires : goal.store-requires
-store-requires c =
-    text_there c.put_entry-long.ensures (has_room (goal.at.store-requires c).Start) c.args.at c.requires.k_in_bounds
 
 pub returns : goal.returns
 returns c =

@@ -23,9 +23,6 @@ note_all-requires c =
     let slots = slots_inside s n.result c.requires n.ensures in
     record { n_in_bounds = slots; n_in_bounds_2 = rw length-replicate (omega (arith, n.ensures, few, most)); n_bound = omega (arith, n.ensures, few, most) }
 
-pub skip-first-requires : goal.skip-first-requires
-skip-first-requires c = c.note_all.ensures
-
 -- the rows from the turn on are the page
 here : (c : After-skip-first) → text_left c.count-n.result c.args.t.now c.args.most c.skip-first.result
     ≡ page_of c.args.t.now c.args.passed c.args.most
@@ -34,10 +31,6 @@ here c =
     let n = c.count-n in
     page_text a.t.now n.result a.passed a.most c.skip-first.result n.ensures c.skip-first.ensures.result_value
 
-pub rows_fit-requires : goal.rows_fit-requires
-rows_fit-requires c =
-    record { kin = c.note_all.ensures; stands_or_ends = c.skip-first.ensures.stands_or_ends }
-
 pub returns-then-not-rows_fit : goal.returns-then-not-rows_fit
 returns-then-not-rows_fit c =
     let a = c.args in
@@ -45,13 +38,10 @@ returns-then-not-rows_fit c =
     page_refused (page_of a.t.now a.passed a.most) a.out.now r.result (rw (here (goal.at.returns-then-not-rows_fit c).After-skip-first) at r.ensures)
     c.if-not-rows_fit.true
 
-pub rows-requires : goal.rows-requires
-rows-requires c =
+pub rows-requires-clause-first_in_bounds : goal.rows-requires-clause-first_in_bounds
+rows-requires-clause-first_in_bounds c =
     let r = c.rows_fit in
-    let x = c.skip-first in
-    let room = page_room (text_left c.count-n.result c.args.t.now c.args.most x.result) c.args.out.now r.result r.ensures
-    c.if-not-rows_fit.false in
-    record { kin = c.note_all.ensures; stands_or_ends = x.ensures.stands_or_ends; first_in_bounds = room }
+    page_room (text_left c.count-n.result c.args.t.now c.args.most c.skip-first.result) c.args.out.now r.result r.ensures c.if-not-rows_fit.false
 
 pub returns : goal.returns
 returns c =

@@ -43,12 +43,6 @@ note_all-requires c =
     let slots = slots_inside s n m.good m.count in
     record { n_in_bounds = slots; n_in_bounds_2 = rw length-replicate (omega (arith, m.count, few, most)); n_bound = omega (arith, m.count, few, most) }
 
-pub start-first-requires : goal.start-first-requires
-start-first-requires c = c.note_all.ensures.slots
-
-pub rows_fit-requires : goal.rows_fit-requires
-rows_fit-requires c = record { kin = c.note_all.ensures; stands_or_ends = c.start-first.ensures.stands_or_ends }
-
 pub returns-then-not-rows_fit : goal.returns-then-not-rows_fit
 returns-then-not-rows_fit c =
     let x = c.start-first in
@@ -64,13 +58,8 @@ room c =
     c.args.out.now x.result x.ensures.result_value c.if-out-head.false c.rows_fit.result c.rows_fit.ensures
     c.if-not-rows_fit.false
 
-pub rows-rows-requires : goal.rows-rows-requires
-rows-rows-requires c =
-    record {
-      kin = c.note_all.ensures;
-      stands_or_ends = c.start-first.ensures.stands_or_ends;
-      first_in_bounds = rows_room (room (goal.at.rows-rows-requires c).Else-not-rows_fit) c.write-wrote.ensures;
-    }
+pub rows-rows-requires-clause-first_in_bounds : goal.rows-rows-requires-clause-first_in_bounds
+rows-rows-requires-clause-first_in_bounds c = rows_room (room (goal.at.rows-rows-requires-clause-first_in_bounds c).Else-not-rows_fit) c.write-wrote.ensures
 
 pub overflow_add-end : goal.overflow_add-end
 overflow_add-end c =

@@ -1,35 +1,37 @@
 -- `book::store::book_sound` meets its contract.
-use mathlib.Core.Path.{sym}
-use Rattle.layout.specs.Line.{end_of_day, line}
-use Rattle.layout.proofs.Demand2.{demand2}
-use Rattle.table.specs.Tables.{table_in}
-use Rattle.book.proofs.Booked.{own_place, outcome_is, read_as, unread, end_beside}
+use mathlib.Core.Path.{◌≡◌, sym}
 use borrow.Author.Rules.{rules}
+use Rattle.std.specs.Prelude.{Err}
+use Rattle.refusal.specs.Answer.{value}
+use Rattle.layout.specs.Line.{end_of_day, line, read}
+use Rattle.layout.proofs.Demand2.{demand2}
+use Rattle.book.proofs.Booked.{own_place, read_as, unread, end_beside}
 use Rattle.book.proofs.store.book_sound.Goals as goal
+use Rattle.book.proofs.store.book_sound.Goals.{In-Line}
 
-pub book_line-requires : goal.book_line-requires
-book_line-requires c =
-    let piece = c.args.piece.now in
-    let said = outcome_is piece _ _ _ c.in-Line.is c.read_in-reading.ensures.said in
-    let r = c.read_in-reading.result.line in
-    let own = own_place piece r (table_in c.args.t.now).orders _ (sym said) c.own-own.ensures in
-    record { t_value = search rules; beside = search rules; own_value = own; lawful_record = (demand2.read_back piece r (sym said)).0 }
+said : (c : In-Line) → value (line c.in-Line.r) ≡ read c.args.piece.now
+said c = rw c.in-Line.is at c.in_ok-read_in.ensures.said
 
-pub returns-in-EndOfDay : goal.returns-in-EndOfDay
-returns-in-EndOfDay c =
-    let piece = c.args.piece.now in
-    let said = outcome_is piece _ _ _ c.in-EndOfDay.is c.read_in-reading.ensures.said in
-    let done = c.book_end.ensures in
-    record { books = read_as c.args.t.now piece (search rules) end_of_day _ _ said done; beside_2 = end_beside done c.requires.beside }
+pub returns-in_err-read_in-clause-books : goal.returns-in_err-read_in-clause-books
+returns-in_err-read_in-clause-books c =
+    let same : c.from_residual.result ≡ Err c.in_err-read_in.field-0.0 = search rules in
+    rw same (unread _ _ c.requires.t_value _ c.in_err-read_in.ensures.said)
 
-pub returns-in-Line : goal.returns-in-Line
-returns-in-Line c =
-    let piece = c.args.piece.now in
-    let said = outcome_is piece _ _ _ c.in-Line.is c.read_in-reading.ensures.said in
-    let done = c.book_line.ensures in
-    record { books = read_as c.args.t.now piece (search rules) (line c.read_in-reading.result.line) _ _ said done.books_said; beside_2 = done.beside_2 }
+pub book_line-requires-clause-own_value : goal.book_line-requires-clause-own_value
+book_line-requires-clause-own_value c =
+    own_place c.args.piece.now c.in-Line.r _ _ (sym (said (goal.at.book_line-requires-clause-own_value c).In-Line)) c.own-own.ensures
 
-pub returns-in-Refused : goal.returns-in-Refused
-returns-in-Refused c =
-    let piece = c.args.piece.now in
-    record { books = unread c.args.t.now piece (search rules) _ (outcome_is piece _ _ _ c.in-Refused.is c.read_in-reading.ensures.said); beside_2 = search rules }
+pub book_line-requires-clause-lawful_record : goal.book_line-requires-clause-lawful_record
+book_line-requires-clause-lawful_record c =
+    (demand2.read_back c.args.piece.now c.in-Line.r (sym (said (goal.at.book_line-requires-clause-lawful_record c).In-Line))).0
+
+pub returns-in-EndOfDay-clause-books : goal.returns-in-EndOfDay-clause-books
+returns-in-EndOfDay-clause-books c =
+    read_as _ _ c.requires.t_value end_of_day _ _ (rw c.in-EndOfDay.is at c.in_ok-read_in.ensures.said) c.book_end.ensures
+
+pub returns-in-EndOfDay-clause-beside_2 : goal.returns-in-EndOfDay-clause-beside_2
+returns-in-EndOfDay-clause-beside_2 c = end_beside c.book_end.ensures c.requires.beside
+
+pub returns-in-Line-clause-books : goal.returns-in-Line-clause-books
+returns-in-Line-clause-books c =
+    read_as _ _ c.requires.t_value (line c.in-Line.r) _ _ (said (goal.at.returns-in-Line-clause-books c).In-Line) c.book_line.ensures.books_said

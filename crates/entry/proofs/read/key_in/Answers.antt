@@ -4,4 +4,4 @@ use Rattle.entry.proofs.read.key_in.Goals as goal
 
 pub returns : goal.returns
 returns c =
-    key_made c.args.w c.args.b.now _ _ c.requires.w_bound c.requires.w_in_bounds c.copy.ensures c.store.ensures
+    key_made c.args.w c.args.b.now _ _ c.requires.w_bound c.requires.w_in_bounds c.array.ensures c.store.ensures

@@ -1,10 +1,7 @@
 -- `index::scanning::scan` meets its contract: none of the records passed has the key.
-use Rattle.std.proofs.Common.{◌≡◌, ◌-◌, ◌≤◌}
+use Rattle.std.proofs.Common.{◌≡◌}
 use Rattle.index.specs.Searches.{earliest}
 use Rattle.index.proofs.scanning.scan.Given as goal
 
 abbrev pub invariant-loop-i : goal.invariant-loop-i
-invariant-loop-i l = (l.i ≤ l.n) × (earliest l.keys l.t l.i l.key ≡ 0)
-
-abbrev pub decreases-loop-i : goal.decreases-loop-i
-decreases-loop-i l = l.n - l.i
+invariant-loop-i l = earliest l.keys l.t l.i l.key ≡ 0

@@ -1,5 +1,5 @@
 -- `index::tag::bucket` meets its contract: by the number itself, or by one that is known to be it.
-use Rattle.std.proofs.Common.{◌+◌, ◌/◌, ◌^◌, sym, refl, ap, div-le_self, rules}
+use Rattle.std.proofs.Common.{◌+◌, ◌/◌, ◌^◌, sym, refl, ap}
 use Rattle.index.proofs.Tagging.{bucket_by}
 use Rattle.index.proofs.tag.bucket.Goals as goal
 
@@ -8,9 +8,6 @@ returns-then-m-eq-USUAL c =
     let h = c.tag-h in
     let a = c.args in
     bucket_by a.m h.result _ a.key.now h.ensures (ap (λ m. h.result / (2 ^ 32 / m + 1)) (sym c.if-m-eq-USUAL.true))
-
-pub overflow_add-result-2 : goal.overflow_add-result-2
-overflow_add-result-2 c = search (rules, div-le_self (2 ^ 32) c.args.m)
 
 pub returns : goal.returns
 returns c =

@@ -1,9 +1,7 @@
 -- `line::fields::is_crlf` meets its contract.
-use Rattle.line.proofs.Readings.{not_two, two_bytes}
+use borrow.Author.Tests.{ne_eqb}
+use Rattle.line.proofs.Readings.{not_two}
 use Rattle.line.proofs.fields.is_crlf.Goals as goal
 
-pub returns-then-s-ne2 : goal.returns-then-s-ne2
-returns-then-s-ne2 c = not_two c.args.s.now c.if-s-ne2.true
-
-pub returns : goal.returns
-returns c = two_bytes c.args.s.now c.if-s-ne2.false
+pub returns-else-s-eq2 : goal.returns-else-s-eq2
+returns-else-s-eq2 c = rw (ne_eqb _ 2 c.if-s-eq2.false) (not_two c.args.s.now c.if-s-eq2.false)

@@ -1,24 +1,22 @@
 -- `line::fields::read_in` meets its contract.
-use mathlib.Core.Path.{sym, ◌∙◌}
-use borrow.Author.Rules.{rules}
 use Rattle.line.proofs.Readings.{end_of_day, other_length, other_end, odd_byte, by_fields}
 use Rattle.line.proofs.fields.read_in.Goals as goal
 
 pub returns-then-is_crlf : goal.returns-then-is_crlf
-returns-then-is_crlf c = end_of_day c.args.piece.now _ _ c.is_crlf.ensures c.if-is_crlf.true c.blank_record.ensures
+returns-then-is_crlf c = end_of_day c.args.piece.now _ c.is_crlf.ensures c.if-is_crlf.true
 
 pub returns-then-piece-ne-LINE : goal.returns-then-piece-ne-LINE
-returns-then-piece-ne-LINE c = other_length c.args.piece.now _ _ c.is_crlf.ensures c.if-is_crlf.false c.if-piece-ne-LINE.true c.refused.ensures
+returns-then-piece-ne-LINE c = other_length c.args.piece.now _ c.is_crlf.ensures c.if-is_crlf.false c.if-piece-ne-LINE.true
 
 pub returns-then-not-is_crlf : goal.returns-then-not-is_crlf
-returns-then-not-is_crlf c = other_end c.args.piece.now _ _ c.is_crlf.ensures c.if-is_crlf.false c.if-piece-ne-LINE.false _ c.is_crlf-2.ensures c.if-not-is_crlf.true c.refused-then-not-is_crlf.ensures
+returns-then-not-is_crlf c = other_end c.args.piece.now _ c.is_crlf.ensures c.if-is_crlf.false c.if-piece-ne-LINE.false _ c.is_crlf-2.ensures c.if-not-is_crlf.true
 
 pub returns-then-not-is_printable : goal.returns-then-not-is_printable
-returns-then-not-is_printable c = odd_byte c.args.piece.now _ _ c.is_crlf.ensures c.if-is_crlf.false c.if-piece-ne-LINE.false _ c.is_crlf-2.ensures c.if-not-is_crlf.false _ c.is_printable.ensures c.if-not-is_printable.true c.refused-then-not-is_printable.ensures
-
-pub by_fields-requires : goal.by_fields-requires
-by_fields-requires c =
-    record { s_len = search rules; s_value = sym c.is_printable.ensures ∙ c.if-not-is_printable.false }
+returns-then-not-is_printable c =
+    odd_byte c.args.piece.now _ c.is_crlf.ensures c.if-is_crlf.false c.if-piece-ne-LINE.false
+    _ c.is_crlf-2.ensures c.if-not-is_crlf.false _ c.is_printable.ensures c.if-not-is_printable.true
 
 pub returns : goal.returns
-returns c = by_fields c.args.piece.now _ _ c.is_crlf.ensures c.if-is_crlf.false c.if-piece-ne-LINE.false _ c.is_crlf-2.ensures c.if-not-is_crlf.false _ c.is_printable.ensures c.if-not-is_printable.false c.by_fields.ensures
+returns c =
+    by_fields c.args.piece.now _ c.is_crlf.ensures c.if-is_crlf.false c.if-piece-ne-LINE.false
+    _ c.is_crlf-2.ensures c.if-not-is_crlf.false _ c.is_printable.ensures _ c.if-not-is_printable.false c.by_fields.ensures

@@ -1,21 +1,12 @@
 -- `quote_slot::finding::find` meets its contract: the earliest row that begins with the bytes of the quote is its place.
 use Prim.Native.Nat.{ℕ}
 use native.Mathlib.Omega.{arith}
-use mathlib.Core.Path.{◌∙◌}
 use lib.ListN.{replicate, length-replicate}
-use Rattle.quote_slot.proofs.Alike.{all_bytes, quotes_held, run_wide, found_row}
+use Rattle.quote_slot.proofs.Alike.{all_bytes, found_row}
 use Rattle.quote_slot.proofs.finding.find.Goals as goal
-
-pub scan-requires : goal.scan-requires
-scan-requires c =
-    let s = c.args.t.now in
-    let k = c.quotes.ensures in
-    let bytes = all_bytes s (λ i. omega (arith, c.shared_slice_known-1.given i)) in
-    record { holds = quotes_held k s c.args.n c.requires.n_in_bounds; key_len = run_wide k s c.args.n c.requires.n_in_bounds bytes c.args.q c.requires.fits_quote (replicate 41 0) _ (length-replicate {A = ℕ} 41 0) c.put_quote.ensures }
 
 pub returns : goal.returns
 returns c =
     let s = c.args.t.now in
-    let bytes = all_bytes s (λ i. omega (arith, c.shared_slice_known-1.given i)) in
-    c.place_of.ensures
-    ∙ found_row c.quotes.ensures s c.args.n c.requires.n_in_bounds bytes c.args.q c.requires.fits_quote (replicate 41 0) _ (length-replicate {A = ℕ} 41 0) c.put_quote.ensures c.scan.ensures
+    let bytes = all_bytes s (λ i. omega (arith, c.type_inv.t i)) in
+    found_row c.quotes.ensures s c.args.n c.requires.n_in_bounds bytes c.args.q c.requires.fits_quote (replicate 41 0) _ (length-replicate {A = ℕ} 41 0) c.put_quote.ensures c.scan.ensures

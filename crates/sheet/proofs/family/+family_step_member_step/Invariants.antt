@@ -5,7 +5,7 @@ use Rattle.sheet.specs.Walk.{elders_in, families_from, members_from}
 use Rattle.sheet.proofs.family.+family_step_member_step.Given as goal
 
 abbrev pub decreases-family_step : goal.decreases-family_step
-decreases-family_step l = length (families_from (elders_in l.n l.t.now) l.from l.family) * 2 + 1
+decreases-family_step l = length (families_from (elders_in l.orders.now.n l.orders.now.t.now) l.from l.family) * 2 + 1
 
 abbrev pub decreases-member_step : goal.decreases-member_step
-decreases-member_step l = length (members_from (elders_in l.n l.t.now) l.x) * 2
+decreases-member_step l = length (members_from (elders_in l.orders.now.n l.orders.now.t.now) l.x) * 2

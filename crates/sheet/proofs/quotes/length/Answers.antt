@@ -4,11 +4,11 @@ use Rattle.table.proofs.Sound.{header_there}
 use Rattle.sheet.proofs.Quoting.{row_there, sum_first, sum_next, sum_small, sum_all}
 use Rattle.sheet.proofs.quotes.length.Goals as goal
 
-pub row_count-n-requires : goal.row_count-n-requires
-row_count-n-requires c = header_there _ c.requires
+pub row_count-i-end-requires : goal.row_count-i-end-requires
+row_count-i-end-requires c = header_there _ c.requires
 
 pub loop-i-init : goal.loop-i-init
-loop-i-init c = sum_first c.requires c.base-base.ensures c.row_count-n.ensures
+loop-i-init c = sum_first c.requires c.base-base.ensures c.row_count-i-end.ensures
 
 pub length-long-requires : goal.length-long-requires
 length-long-requires c = row_there c.loop-i.invariant.lines c.loop-i-test.true

@@ -5,11 +5,11 @@ use Rattle.sheet.proofs.Joining.{keeps_length}
 use Rattle.sheet.proofs.Quoting.{row_there, line_room, written_first, written_inside, written_next, written_all}
 use Rattle.sheet.proofs.quotes.write.Goals as goal
 
-pub row_count-n-requires : goal.row_count-n-requires
-row_count-n-requires c = header_there _ c.requires.t_value
+pub row_count-i-end-requires : goal.row_count-i-end-requires
+row_count-i-end-requires c = header_there _ c.requires.t_value
 
 pub loop-i-init : goal.loop-i-init
-loop-i-init c = written_first c.requires.t_value c.base-base.ensures c.row_count-n.ensures
+loop-i-init c = written_first c.requires.t_value c.base-base.ensures c.row_count-i-end.ensures
 
 pub slice_bounds-write-count : goal.slice_bounds-write-count
 slice_bounds-write-count c = written_inside c.loop-i.invariant c.requires.t_in_bounds

@@ -1,28 +1,10 @@
 -- `table::asked::copy_row` meets its contract.
-use mathlib.Core.Path.{sym, ◌∙◌}
-use Rattle.section.specs.Sections.{Holds}
-use Rattle.quote_slot.specs.QuoteSlots.{rows}
-use Rattle.table.specs.Promises.{CopiesOf}
-use Rattle.table.proofs.Asking.{uncopied, rows_held, rows_at}
+use Rattle.table.proofs.Asking.{rows_held}
 use Rattle.table.proofs.Sound.{header_there}
 use Rattle.table.proofs.asked.copy_row.Goals as goal
 
-pub returns-then-not-is_sound : goal.returns-then-not-is_sound
-returns-then-not-is_sound c =
-    let a = c.args in
-    uncopied _ _ a.t.now a.i a.out.now (sym c.is_sound.ensures ∙ c.if-not-is_sound.true)
-
 pub row_count-requires : goal.row_count-requires
-row_count-requires c = header_there c.args.t.now (sym c.is_sound.ensures ∙ c.if-not-is_sound.false)
+row_count-requires c = header_there c.args.t.now c.in_ok-undamaged.ensures
 
-pub copy-requires : goal.copy-requires
-copy-requires c =
-    let a = c.args in
-    let good = sym c.is_sound.ensures ∙ c.if-not-is_sound.false in
-    record { t_value = good; holds = rows_at (λ b n. Holds (rows b) a.t.now n) c.base-first.ensures c.row_count.ensures (rows_held a.t.now good) }
-
-pub returns : goal.returns
-returns c =
-    let a = c.args in
-    let done = c.copy in
-    rows_at (λ b n. CopiesOf (rows b) n a.t.now a.i a.out.now done.result done.new.out) (sym c.base-first.ensures) (sym c.row_count.ensures) done.ensures
+pub copy-requires-clause-holds : goal.copy-requires-clause-holds
+copy-requires-clause-holds c = rw (c.rows-rows.ensures, c.base.ensures, c.row_count.ensures) (rows_held c.args.t.now c.in_ok-undamaged.ensures)

@@ -3,14 +3,8 @@ use mathlib.Core.Bool.{not}
 use mathlib.Core.Path.{ap}
 use native.Mathlib.Omega.{arith}
 use Rattle.table.proofs.Answers.{refuted, upheld}
-use Rattle.table.proofs.RowPasses.{none_passed, all_passed, row_stops, row_passed}
+use Rattle.table.proofs.RowPasses.{row_stops, row_passed}
 use Rattle.table.proofs.damage.each_sound.Goals as goal
-
-pub loop-i-init : goal.loop-i-init
-loop-i-init c = none_passed
-
-pub row_at-requires : goal.row_at-requires
-row_at-requires c = omega arith
 
 pub returns-then-not-sound_row : goal.returns-then-not-sound_row
 returns-then-not-sound_row c =
@@ -21,6 +15,3 @@ pub loop-i-preserved : goal.loop-i-preserved
 loop-i-preserved c =
     row_passed c.loop-i.invariant (omega arith) c.row_at.ensures
     (upheld _ _ c.sound_row.ensures (ap not c.if-not-sound_row.false))
-
-pub returns : goal.returns
-returns c = all_passed c.loop-i.invariant (omega arith)

@@ -22,9 +22,6 @@ sound_header-requires c = let s = c.args.t.now in omega (arith, slot_inside (len
 pub returns-then-not-sound_header : goal.returns-then-not-sound_header
 returns-then-not-sound_header c = bad_header c.args.t.now (refuted _ _ c.sound_header.ensures (ap not c.if-not-sound_header.true))
 
-pub sound_rows-requires : goal.sound_rows-requires
-sound_rows-requires c = omega (arith, c.limit-most.ensures, c.if-most-eq0.false)
-
 pub returns : goal.returns
 returns c =
     ap₂ ◌&&◌ c.sound_slots.ensures c.sound_rows.ensures

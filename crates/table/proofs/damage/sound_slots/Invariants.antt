@@ -1,10 +1,6 @@
 -- `table::damage::sound_slots` meets its contract: the orders of the slots passed are undamaged and seen; a slot that does not fit damages all.
-use Prim.Native.Nat.{◌-◌}
 use Rattle.table.proofs.Passes.{Passed}
 use Rattle.table.proofs.damage.sound_slots.Given as goal
 
 abbrev pub invariant-loop-i : goal.invariant-loop-i
 invariant-loop-i l = Passed l.t l.flags l.i
-
-abbrev pub decreases-loop-i : goal.decreases-loop-i
-decreases-loop-i l = l.n - l.i

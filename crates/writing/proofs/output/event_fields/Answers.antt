@@ -1,6 +1,5 @@
--- `writing::output::event_fields` meets its contract. Its places: cN where field N is stored, d where the rest is, s where it starts.
+-- `writing::output::event_fields` meets its contract.
 use mathlib.Core.Path.{refl}
-use native.Mathlib.Omega.{arith}
 use borrow.Author.Rules.{rules}
 use lib.Dec.{lit<}
 use Rattle.writing.proofs.Puts.{field_then}
@@ -11,9 +10,6 @@ use Rattle.writing.proofs.output.event_fields.Goals.{Start}
 
 sized : (c : Start) → Sized c.args.r
 sized c = search rules
-
-pub store-requires : goal.store-requires
-store-requires c = omega (arith, (sized (goal.at.store-requires c).Start).firm)
 
 pub returns : goal.returns
 returns c =

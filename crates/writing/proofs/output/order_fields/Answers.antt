@@ -1,6 +1,5 @@
--- `writing::output::order_fields` meets its contract. Its places: cN where field N is stored, d where the rest is, s where it starts.
-use mathlib.Core.Path.{refl, sym}
-use native.Mathlib.Omega.{arith}
+-- `writing::output::order_fields` meets its contract.
+use mathlib.Core.Path.{refl}
 use borrow.Author.Rules.{rules}
 use lib.Dec.{lit<}
 use Rattle.writing.proofs.Puts.{field_then}
@@ -10,15 +9,6 @@ use Rattle.writing.proofs.output.order_fields.Goals.{Start}
 
 sized : (c : Start) → Sized c.args.r
 sized c = search rules
-
-pub store-requires : goal.store-requires
-store-requires c = omega (arith, (sized (goal.at.store-requires c).Start).reference)
-
-pub slice_bounds-store-end-2 : goal.slice_bounds-store-end-2
-slice_bounds-store-end-2 c = sym (sized (goal.at.slice_bounds-store-end-2 c).Start).root
-
-pub store-requires-2 : goal.store-requires-2
-store-requires-2 c = omega (arith, (sized (goal.at.store-requires-2 c).Start).root)
 
 pub returns : goal.returns
 returns c =

@@ -1,4 +1,4 @@
--- `writing::output::price_fields` meets its contract. Its places: cN where field N is stored, d where the rest is, s where it starts.
+-- `writing::output::price_fields` meets its contract.
 use mathlib.Core.Path.{refl}
 use lib.Dec.{lit<}
 use Rattle.writing.proofs.Puts.{field_then}

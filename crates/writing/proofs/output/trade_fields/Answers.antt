@@ -1,4 +1,4 @@
--- `writing::output::trade_fields` meets its contract. Its places: cN where field N is stored, d where the rest is, s where it starts.
+-- `writing::output::trade_fields` meets its contract.
 use lib.Dec.{lit<}
 use Rattle.writing.proofs.Puts.{field_then, ends, match_text, cross_text}
 use Rattle.writing.proofs.output.trade_fields.Goals as goal

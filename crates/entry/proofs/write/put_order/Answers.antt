@@ -1,5 +1,0 @@
--- `entry::write::put_order` meets its contract: the bytes of the entry are those of its definition.
-use Rattle.entry.proofs.write.put_order.Goals as goal
-
-pub returns : goal.returns
-returns c = c.put_entry.ensures

@@ -1,5 +1,0 @@
--- `field::verbatim::hex` meets its contract.
-use Rattle.field.proofs.verbatim.hex.Goals as goal
-
-pub returns : goal.returns
-returns c = cc

@@ -1,6 +1,0 @@
--- `order::Figures::execute` meets its contract: its figures are those that the definition gives.
-use mathlib.Core.Path.{refl}
-use Rattle.order.proofs.Figures.execute.Goals as goal
-
-pub returns : goal.returns
-returns c = refl
