@@ -1,107 +1,93 @@
 // What the trial program prints, piece by piece.
 #![tactic(auto)]
 
-ghost use Rattle.std.specs.Prelude.{◌<◌};
-
+use std::fmt;
+use std::fmt::{Display, Formatter, Write};
 use std::io::Print;
 
 pub mod show;
 
-// What cannot be written is let go: it shows where the output is compared.
+// Prints a format. What cannot be written is let go: it shows where the output is compared.
+#[macro_export]
+macro_rules! say {
+    ($rt:expr; $($format:tt)+) => {{
+        let _ = print!($rt; $($format)+);
+    }};
+}
+
+// Bytes that need not be text.
 pub fn text(rt: &impl Print, s: &[u8]) {
     let _ = rt.write_all(s);
 }
 
-// A word and a number behind it.
-pub fn numbered(rt: &impl Print, word: &[u8], n: u64) {
-    text(rt, word);
-    let _ = rt.print(n);
-}
-
 // All of a buffer, in brackets.
 pub fn bytes(rt: &impl Print, s: &[u8]) {
-    text(rt, b" [");
+    say!(rt; " [");
     text(rt, s);
-    text(rt, b"]");
+    say!(rt; "]");
 }
 
-// refused R, with field F after a 3, from the one number that says it.
-pub fn refused(rt: &impl Print, code: u32) {
-    numbered(rt, b" refused ", (code % 256) as u64);
-    if 255 < code {
-        numbered(rt, b" field ", (code / 256) as u64);
+// What an entry answers, from the one number that says it: done, or refused R, with field F after a 3.
+#[derive(Drop)]
+pub struct Answer(pub u32);
+
+impl Display for Answer {
+    fn fmt<W: Write>(&self, f: &mut Formatter<W>) -> fmt::Result {
+        if self.0 == 0 {
+            return write!(f, "done");
+        }
+        write!(f, "refused {}", self.0 % 256)?;
+        if self.0 < 256 {
+            return Ok(());
+        }
+        write!(f, " field {}", self.0 / 256)
+    }
+}
+
+// Numbers, a space before each.
+#[derive(Drop)]
+pub struct Spaced<'a, T>(pub &'a [T]);
+
+impl<T: Display> Display for Spaced<'_, T> {
+    fn fmt<W: Write>(&self, f: &mut Formatter<W>) -> fmt::Result {
+        for n in self.0 {
+            write!(f, " {n}")?;
+        }
+        Ok(())
     }
 }
 
 // A refusal, and the numbers that were lent as it left them.
 pub fn left(rt: &impl Print, code: u32, lent: &[u64]) {
-    refused(rt, code);
-    text(rt, b" left");
-    let mut i = 0;
-    while i < lent.len() {
-        numbered(rt, b" ", lent[i]);
-        i += 1;
-    }
+    say!(rt; " {} left{}", Answer(code), Spaced(lent));
 }
 
 // The one number that was lent, behind its word where the entry is done.
-pub fn number(rt: &impl Print, word: &[u8], code: u32, n: u64) {
+pub fn number(rt: &impl Print, word: &str, code: u32, n: u64) {
     if code == 0 {
-        numbered(rt, word, n);
+        say!(rt; "{word}{n}");
         return;
     }
     left(rt, code, &[n]);
 }
 
-// A list of answers, each as its one number, in brackets.
-pub fn answers(rt: &impl Print, list: &[u32]) {
-    text(rt, b" [");
-    let mut i = 0;
-    while i < list.len() {
-        one(rt, list[i]);
-        i += 1;
-    }
-    text(rt, b"]");
-}
-
-fn one(rt: &impl Print, code: u32) {
-    numbered(rt, b" ", code as u64);
-}
-
-pub fn answer(rt: &impl Print, code: u32) {
-    if code == 0 {
-        text(rt, b" done");
-    } else {
-        refused(rt, code);
-    }
-}
-
 // A buffer that was lent: how long it is, the answer, and all its bytes.
-pub fn filled(rt: &impl Print, word: &[u8], code: u32, s: &[u8]) {
-    numbered(rt, word, s.len() as u64);
-    answer(rt, code);
+pub fn filled(rt: &impl Print, word: &str, code: u32, s: &[u8]) {
+    say!(rt; "{word}{} {}", s.len(), Answer(code));
     bytes(rt, s);
 }
 
 pub fn sum(rt: &impl Print, s: &[u8]) {
-    numbered(rt, b" sum ", adler(s));
+    say!(rt; " sum {}", adler(s));
 }
 
 // Adler-32. Both halves are cut back at each byte, so that no run is too long for them.
 fn adler(s: &[u8]) -> u64 {
     let mut a = 1;
     let mut b = 0;
-    let mut i = 0;
-    while i < s.len() {
-        a = (a + wide(s[i])) % 65521;
+    for x in s {
+        a = (a + *x as u64) % 65521;
         b = (b + a) % 65521;
-        i += 1;
     }
     b * 65536 + a
-}
-
-fn wide(x: u8) -> u64
-    ensures { result < 256 }
-{
-    x as u64
 }

@@ -1,67 +1,48 @@
 -- Chunk after chunk: what is taken is one text, and what is written for it is what 01 says.
 use Prim.Native.Nat.{ℕ, ◌^◌, ◌≤◌, ◌<◌}
 use native.Mathlib.Omega.{arith}
-use mathlib.Core.Path.{◌≡◌, refl, ◌∙◌, ap}
-use mathlib.Core.Bool.{true, false, false≢true}
+use mathlib.Core.Path.{◌≡◌, refl, sym, ◌∙◌, ap}
+use mathlib.Core.Bool.{true}
 use mathlib.Core.List.{List, [], ◌++◌, append_assoc, append-nil}
-use lib.ListN.{length, take}
-use Rattle.table.specs.Tables.{limit_of, sound}
+use lib.ListN.{length, replicate, take, length-replicate}
+use Rattle.std.specs.Prelude.{Ok}
+use Rattle.table.specs.Tables.{least_limit, limit_of, sound, table_length}
 use Rattle.run.proofs.Parts.{part_whole}
+use Rattle.table.proofs.Limits.{least_length, limit_is}
 use Rattle.table.proofs.Making.{empty_sound}
 use Rattle.book.specs.Bytes.{bytes_after}
 use Rattle.piece.specs.Pieces.{pieces}
 use Rattle.feed.specs.Printed.{printed}
-use Rattle.feed.specs.Steps.{Between, between, finished, held_in, hold_length, room_at_end}
+use Rattle.feed.specs.Steps.{Between, between, between_of, finished, Held, room_at_end}
 use Rattle.feed.specs.Whole.Calls.{none}
-use Rattle.feed.proofs.Finishing.{finished_most}
+use Rattle.feed.proofs.Finishing.{finished_most, least_room}
 use Rattle.feed.proofs.Whole.{whole}
 use Rattle.sheet_run.specs.Promises.{Leads, Takes, Reads, Ends, Prints}
-use Rattle.sheet_run.specs.declared.Kept.{Kept}
 
 -- ---- texts
-
-nothing_leads : (x : Between) → Leads x [] x
-nothing_leads x = record { said = []; onward = λ c. c }
 
 then_leads : {x y z : Between} {a b : List ℕ} → Leads x a y → Leads y b z → Leads x (a ++ b) z
 then_leads p q = record { said = p.said ++ q.said; onward = λ c. simp append_assoc (p.onward (q.onward c)) }
 
 -- ---- what a program reads
 
--- between two chunks, with all that was said written out
-abbrev pub gone : ℕ → ℕ → Kept
-gone held line = record { held = held; line = line; good = true }
-
-pub nothing_read : (hold t : List ℕ) (line : ℕ) → length hold ≡ hold_length → sound t ≡ true → Reads (between [] line t) (gone 0 line) t hold
-nothing_read hold t line long good =
-    record { text = []; takes = record { leads = λ _. nothing_leads (between [] line t); few = omega arith; long = long; sound = good } }
-
-pub more_read : {x : Between} {held line : ℕ} {chunk t hold t₁ hold₁ : List ℕ} {r : Kept} → Reads x (gone held line) t hold
-    → Takes (between (held_in hold held) line t) chunk r t₁ hold₁ → Reads x r t₁ hold₁
+-- a chunk that was taken, whatever a failure would be
+pub more_read : {E F : Type 0} {x : Between} {chunk t t₁ : List ℕ} {hold hold₁ : Held} {u : Unit {0}} → Reads {T = Unit {0}} {E = F} x (Ok tt) t hold
+    → Takes {T = Unit {0}} {E = E} (between_of hold t) chunk (Ok u) t₁ hold₁ → Reads {T = Unit {0}} {E = F} x (Ok tt) t₁ hold₁
 more_read {chunk} p q =
-    record {
-      text = p.text ++ chunk;
-      takes = record { leads = λ e. then_leads (p.takes.leads refl) (q.leads e); few = q.few; long = q.long; sound = q.sound };
-    }
-
--- another chunk may come
-pub goes_on : {x : Between} {r : Kept} {t hold : List ℕ} → r.good ≡ true → Reads x r t hold → Reads x (gone r.held r.line) t hold
-goes_on e p =
-    record {
-      text = p.text;
-      takes = record { leads = λ _. p.takes.leads e; few = p.takes.few; long = p.takes.long; sound = p.takes.sound };
-    }
-
--- the end of the input is not reached
-pub unread : {x : Between} {held line : ℕ} {t hold : List ℕ} → Reads x (gone held line) t hold
-    → Reads x (record { held = held; line = line; good = false }) t hold
-unread p =
-    record {
-      text = p.text;
-      takes = record { leads = λ e. absurd (false≢true e); few = p.takes.few; long = p.takes.long; sound = p.takes.sound };
-    }
+    record { text = p.text ++ chunk; takes = record { leads = then_leads p.takes.leads q.leads; sound = q.sound } }
 
 -- ---- the whole program
+
+-- a table of the length that the sheet program lends has a limit, and an output of 46,662 bytes has room for all that is said at its end
+pub least_table : (0 < limit_of 47240) × (limit_of 47240 ≡ 512) × (room_at_end (limit_of 47240) ≡ 46662)
+least_table = lent 47240 (sym least_length)
+  where
+    lent : (n : ℕ) → n ≡ table_length least_limit → (0 < limit_of n) × (limit_of n ≡ 512) × (room_at_end (limit_of n) ≡ 46662)
+    lent n e =
+        let zeros = length-replicate {A = ℕ} n 0 in
+        let room = rw zeros at (least_room (replicate n 0) (zeros ∙ e)) in
+        (room.0, sym (limit_is n e), room.1)
 
 -- room for the end of the text stays where table and output buffer keep their lengths
 pub room_kept : {table first out before : ℕ} → table ≡ first → out ≡ before → room_at_end (limit_of first) ≤ before → room_at_end (limit_of table) ≤ out
@@ -71,12 +52,12 @@ module _ (before : List ℕ) {begun : List ℕ} (b : begun ≡ bytes_after befor
   pub begun_sound : 0 < limit_of (length before) → sound begun ≡ true
   begun_sound meant = ap sound b ∙ empty_sound before meant
 
-  pub all_printed : {t hold : List ℕ} {r : Kept} → Reads (between [] 1 begun) r t hold → r.good ≡ true → {buffer last out : List ℕ}
-      → Ends (between (held_in hold r.held) r.line t) buffer last out → room_at_end (limit_of (length t)) ≤ length buffer → Prints before out
-  all_printed {t} {hold} {r} p e {buffer} {out} w h =
-      let y = between (held_in hold r.held) r.line t in
-      let l = p.takes.leads e in
-      let most = finished_most (held_in hold r.held) r.line t p.takes.sound in
+  pub all_printed : {E : Type 0} {t : List ℕ} {hold : Held} → Reads {T = Unit {0}} {E = E} (between [] 1 begun) (Ok tt) t hold → {buffer last out : List ℕ}
+      → Ends (between_of hold t) buffer last out → room_at_end (limit_of (length t)) ≤ length buffer → Prints before out
+  all_printed {t} {hold} p {buffer} {out} w h =
+      let y = between_of hold t in
+      let l = p.takes.leads in
+      let most = finished_most hold.piece hold.line t p.takes.sound in
       record {
         text = p.text;
         said = l.said;

@@ -1,10 +1,9 @@
 -- What the run over chunks promises: of a chunk, of the end, and of all that a program reads.
-use Rattle.std.specs.Prelude.{ℕ, ◌≤◌, ◌≡◌, true, List, ◌++◌, length, take}
+use Rattle.std.specs.Prelude.{ℕ, ◌≡◌, true, List, ◌++◌, length, take, Result, OnOk}
 use Rattle.std.proofs.lemmas.List.Edits.{sets}
 use Rattle.table.specs.Tables.{sound}
-use Rattle.feed.specs.Steps.{Between, between, hold_length, last_table, finished, held_in}
+use Rattle.feed.specs.Steps.{Between, between_of, Held, last_table, finished}
 use Rattle.feed.specs.Whole.{Calls, start}
-use Rattle.sheet_run.specs.declared.Kept.{Kept}
 
 -- 01, The sheet: "books each, .. as it comes": a text that leads from x to y, and what is said of it. Any calls that go on from y are calls from x
 -- with that text in front of theirs, and with `said` in front of what they write
@@ -13,14 +12,12 @@ pub record Leads (x : Between) (text : List ℕ) (y : Between) : Type 0 where
   pub onward : {z : Between} {rest out : List ℕ} → Calls y rest z out → Calls x (text ++ rest) z (said ++ out)
 
 -- `sheet_run::take`: the table and the hold are as they are afterwards. Where not all could be written, the run ends
-pub record Takes (x : Between) (chunk : List ℕ) (r : Kept) (table hold : List ℕ) : Type 0 where
-  pub leads : r.good ≡ true → Leads x chunk (between (held_in hold r.held) r.line table)
-  pub few : r.held ≤ hold_length
-  pub long : length hold ≡ hold_length
+pub record Takes {T E : Type 0} (x : Between) (chunk : List ℕ) (r : Result T E) (table : List ℕ) (hold : Held) : Type 0 where
+  pub leads : OnOk r (Leads x chunk (between_of hold table))
   pub sound : sound table ≡ true
 
 -- a program that takes all the chunks that it reads: they are some text
-pub record Reads (x : Between) (r : Kept) (table hold : List ℕ) : Type 0 where
+pub record Reads {T E : Type 0} (x : Between) (r : Result T E) (table : List ℕ) (hold : Held) : Type 0 where
   pub text : List ℕ
   pub takes : Takes x text r table hold
 

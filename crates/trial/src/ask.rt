@@ -1,16 +1,18 @@
-// A case by its kind. A case that answers false has printed nothing: its payload is not as its kind says.
+// A case by its kind. A case that answers None has printed nothing: its payload is not as its kind says.
+use crate::hand::Table;
 use crate::{chunks, tables, texts};
+use say::say;
 use std::io::Print;
 
-// The table in hand is the first len bytes of table. A case's last line ends here, whatever it says.
-pub fn case(rt: &impl Print, kind: u8, s: &[u8], table: &mut [u8], len: &mut usize) {
-    if !answered(rt, kind, s, table, len) {
-        say::text(rt, b"bad case");
+// A case's last line ends here, whatever it says.
+pub fn case(rt: &impl Print, kind: u8, s: &[u8], table: &mut Table) {
+    if answered(rt, kind, s, table).is_none() {
+        say!(rt; "bad case");
     }
-    say::text(rt, b"\n");
+    say!(rt; "\n");
 }
 
-fn answered(rt: &impl Print, kind: u8, s: &[u8], table: &mut [u8], len: &mut usize) -> bool {
+fn answered(rt: &impl Print, kind: u8, s: &[u8], table: &mut Table) -> Option<()> {
     match kind {
         b'n' => name(rt, s),
         b'r' => trial_lines::read(rt, s),
@@ -23,15 +25,16 @@ fn answered(rt: &impl Print, kind: u8, s: &[u8], table: &mut [u8], len: &mut usi
         b'y' => texts::count(rt, s),
         b'z' => texts::given(rt, s),
         b'c' => chunks::case(rt, s),
-        _ => tables::case(rt, kind, s, table, len),
+        b't' => tables::take(rt, s, table),
+        _ => tables::case(rt, kind, s, table.in_hand()?),
     }
 }
 
-fn name(rt: &impl Print, s: &[u8]) -> bool {
-    if run::member(b'\n', s) {
-        return false;
+fn name(rt: &impl Print, s: &[u8]) -> Option<()> {
+    if s.contains(&b'\n') {
+        return None;
     }
-    say::text(rt, b"== ");
+    say!(rt; "== ");
     say::text(rt, s);
-    true
+    Some(())
 }

@@ -4,64 +4,46 @@
 
 mod ask;
 mod chunks;
-mod space;
+mod hand;
 mod tables;
 mod texts;
 
+use hand::Table;
+use say::say;
 use std::io::{Input, Print, Read};
 
 fn main(rt: HostRuntime) {
-    let mut payload = space::payload();
-    let mut table = space::table();
-    let mut len = 0;
-    cases(&rt, &mut payload, &mut table, &mut len);
+    let mut payload = [0; 65_536];
+    let mut table = Table::empty();
+    cases(&rt, &mut payload, &mut table);
 }
 
-// The cases one after another. A proved loop has to end, and nothing says that the input does, so it counts its turns down from a number
-// that no run uses up.
-fn cases(rt: &(impl Input + Print), payload: &mut [u8], table: &mut [u8], len: &mut usize) {
+// The cases one after another. A proved loop has to end, and nothing says that the input does, so it counts its turns to a number that no run
+// uses up.
+fn cases(rt: &(impl Input + Print), payload: &mut [u8], table: &mut Table) {
     let mut reader = rt.reader();
-    let mut turns = u64::MAX;
-    while turns > 0 && one_case(rt, &mut reader, payload, table, len) {
-        turns -= 1;
+    for _ in 0..u64::MAX {
+        if one_case(rt, &mut reader, payload, table).is_none() {
+            break;
+        }
     }
 }
 
-// One case: a letter, the length in four bytes, the payload. Answers whether there may be another.
+// One case: a letter, the length in four bytes, the payload. Answers None where there is no other.
 fn one_case(
     rt: &impl Print,
     reader: &mut impl Read,
     payload: &mut [u8],
-    table: &mut [u8],
-    len: &mut usize,
-) -> bool {
-    if payload.len() < 5 {
-        return false;
-    }
-    if reader.read_exact(&mut payload[0..5]).is_err() {
-        return false;
-    }
-    let kind = payload[0];
-    let long = cell::get(payload, 1, 4) as usize;
-    ask_about(rt, reader, kind, payload, long, table, len)
-}
-
-fn ask_about(
-    rt: &impl Print,
-    reader: &mut impl Read,
-    kind: u8,
-    payload: &mut [u8],
-    long: usize,
-    table: &mut [u8],
-    len: &mut usize,
-) -> bool {
-    if payload.len() < long {
-        say::text(rt, b"case too long\n");
-        return false;
-    }
-    if reader.read_exact(&mut payload[0..long]).is_err() {
-        return false;
-    }
-    ask::case(rt, kind, &payload[0..long], table, len);
-    true
+    table: &mut Table,
+) -> Option<()> {
+    let mut head = [0u8; 5];
+    reader.read_exact(&mut head).ok()?;
+    let [kind, a, b, c, d] = head;
+    let Some(payload) = payload.get_mut(..u32::from_le_bytes([a, b, c, d]) as usize) else {
+        say!(rt; "case too long\n");
+        return None;
+    };
+    reader.read_exact(payload).ok()?;
+    ask::case(rt, kind, payload, table);
+    Some(())
 }

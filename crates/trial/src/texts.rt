@@ -1,38 +1,29 @@
 // The cases about the pieces of a text.
+use say::say;
 use std::io::Print;
 
-pub fn next_piece(rt: &impl Print, s: &[u8]) -> bool {
-    if s.len() < 8 {
-        return false;
-    }
-    let at = cell::get(s, 0, 8);
+pub fn next_piece(rt: &impl Print, s: &[u8]) -> Option<()> {
+    let (at, text) = s.split_first_chunk()?;
+    let at = u64::from_le_bytes(*at);
     let mut end = 0;
-    door::skurzelt_next_piece(&s[8..], at, &mut end);
-    piece(rt, at, end);
-    true
-}
-
-fn piece(rt: &impl Print, at: u64, end: u64) {
+    door::skurzelt_next_piece(text, at, &mut end);
     if end == at {
-        say::text(rt, b"piece none");
-        return;
+        say!(rt; "piece none");
+    } else {
+        say!(rt; "piece {at} {end}");
     }
-    say::numbered(rt, b"piece ", at);
-    say::numbered(rt, b" ", end);
+    Some(())
 }
 
-pub fn count(rt: &impl Print, s: &[u8]) -> bool {
-    say::numbered(rt, b"pieces ", reader::count(s) as u64);
-    true
+pub fn count(rt: &impl Print, s: &[u8]) -> Option<()> {
+    say!(rt; "pieces {}", reader::count(s));
+    Some(())
 }
 
 // The piece with a number.
-pub fn given(rt: &impl Print, s: &[u8]) -> bool {
-    if s.len() < 8 {
-        return false;
-    }
-    say::text(rt, b"given [");
-    say::text(rt, reader::nth(&s[8..], cell::get(s, 0, 8) as usize));
-    say::text(rt, b"]");
-    true
+pub fn given(rt: &impl Print, s: &[u8]) -> Option<()> {
+    let (n, text) = s.split_first_chunk()?;
+    say!(rt; "given");
+    say::bytes(rt, reader::nth(text, u64::from_le_bytes(*n) as usize));
+    Some(())
 }

@@ -1,131 +1,102 @@
-// The trial cases about one line. A record is its 138 bytes (docs/LAYOUT.md, A record). A case that answers false has printed nothing.
+// The trial cases about one line. A record is its 138 bytes (docs/LAYOUT.md, A record). A case that answers None has printed nothing.
 #![tactic(auto)]
 
-use say::show;
+use layout::FIELDS;
+use say::{Answer, say, show};
 use std::io::Print;
 
-pub fn read(rt: &impl Print, piece: &[u8]) -> bool {
-    let mut record = [0u8; 138];
+pub fn read(rt: &impl Print, piece: &[u8]) -> Option<()> {
+    let mut record = [0u8; FIELDS];
     let mut kind = 0;
     let code = door::skurzelt_read(piece, &mut record, &mut kind);
-    say::text(rt, b"read");
-    if code != 0 {
-        say::refused(rt, code);
-        return true;
+    match (code, kind) {
+        (0, 0) => say!(rt; "read end of day"),
+        (0, _) => read_record(rt, &record)?,
+        _ => say!(rt; "read {}", Answer(code)),
     }
-    if kind == 0 {
-        say::text(rt, b" end of day");
-        return true;
-    }
-    read_record(rt, &record);
-    true
+    Some(())
 }
 
-// Its fields, and what writing it back gives.
-fn read_record(rt: &impl Print, record: &[u8]) {
+// Its fields, and what writing it back gives into buffers of these sizes.
+fn read_record(rt: &impl Print, record: &[u8; FIELDS]) -> Option<()> {
+    say!(rt; "read");
     show::record(rt, record);
-    write_back(rt, record, 0);
-    write_back(rt, record, 139);
-    write_back(rt, record, 140);
-    write_back(rt, record, 152);
-}
-
-fn write_back(rt: &impl Print, record: &[u8], n: usize) {
-    say::text(rt, b"\n");
-    written(rt, record, n);
+    for n in [0, 139, 140, 152] {
+        say!(rt; "\n");
+        written(rt, record, n)?;
+    }
+    Some(())
 }
 
 // A piece read into a buffer of n bytes.
-pub fn read_into(rt: &impl Print, s: &[u8]) -> bool {
-    if s.len() < 2 {
-        return false;
-    }
+pub fn read_into(rt: &impl Print, s: &[u8]) -> Option<()> {
+    let (n, piece) = s.split_first_chunk()?;
+    let n = u16::from_le_bytes(*n);
     let mut buffer = [b'.'; 300];
-    read_in(rt, &s[2..], &mut buffer, cell::get(s, 0, 2) as usize)
-}
-
-fn read_in(rt: &impl Print, piece: &[u8], buffer: &mut [u8], n: usize) -> bool {
-    if buffer.len() < n {
-        return false;
-    }
+    let buffer = buffer.get_mut(..n as usize)?;
     let mut kind = 7;
-    let code = door::skurzelt_read(piece, &mut buffer[0..n], &mut kind);
-    say::numbered(rt, b"record ", n as u64);
-    say::answer(rt, code);
-    say::numbered(rt, b" kind ", kind);
-    say::bytes(rt, &buffer[0..n]);
-    true
+    let code = door::skurzelt_read(piece, buffer, &mut kind);
+    say!(rt; "record {n} {} kind {kind}", Answer(code));
+    say::bytes(rt, buffer);
+    Some(())
 }
 
 // A record written into a buffer of n bytes.
-pub fn write(rt: &impl Print, s: &[u8]) -> bool {
-    if s.len() < 2 {
-        return false;
-    }
-    written(rt, &s[2..], cell::get(s, 0, 2) as usize)
+pub fn write(rt: &impl Print, s: &[u8]) -> Option<()> {
+    let (n, record) = s.split_first_chunk()?;
+    written(rt, record, u16::from_le_bytes(*n))
 }
 
-fn written(rt: &impl Print, record: &[u8], n: usize) -> bool {
+fn written(rt: &impl Print, record: &[u8], n: u16) -> Option<()> {
     let mut buffer = [b'.'; 300];
-    written_in(rt, record, &mut buffer, n)
+    let buffer = buffer.get_mut(..n as usize)?;
+    let code = door::skurzelt_write(record, buffer);
+    say::filled(rt, "write ", code, buffer);
+    Some(())
 }
 
-fn written_in(rt: &impl Print, record: &[u8], buffer: &mut [u8], n: usize) -> bool {
-    if buffer.len() < n {
-        return false;
-    }
-    let code = door::skurzelt_write(record, &mut buffer[0..n]);
-    say::filled(rt, b"write ", code, &buffer[0..n]);
-    true
-}
-
-pub fn strike_value(rt: &impl Print, s: &[u8]) -> bool {
-    if s.len() != 9 {
-        return false;
-    }
+pub fn strike_value(rt: &impl Print, s: &[u8]) -> Option<()> {
+    let (denominator, strike) = s.split_first()?;
+    let strike = u64::from_le_bytes(*strike.as_array()?);
     let mut value = 7;
-    let code = door::skurzelt_strike_value(s[0], cell::get(s, 1, 8), &mut value);
-    say::text(rt, b"strike");
-    say::number(rt, b" value ", code, value);
-    true
+    let code = door::skurzelt_strike_value(*denominator, strike, &mut value);
+    say!(rt; "strike");
+    say::number(rt, " value ", code, value);
+    Some(())
 }
 
-pub fn strike_form(rt: &impl Print, s: &[u8]) -> bool {
-    if s.len() != 8 {
-        return false;
-    }
+pub fn strike_form(rt: &impl Print, s: &[u8]) -> Option<()> {
+    let value = u64::from_le_bytes(*s.as_array()?);
     let mut denominator = 7;
     let mut strike = 8;
-    let code = door::skurzelt_strike_form(cell::get(s, 0, 8), &mut denominator, &mut strike);
+    let code = door::skurzelt_strike_form(value, &mut denominator, &mut strike);
     if code == 0 {
         show::strike(rt, denominator, strike);
     } else {
-        say::text(rt, b"form");
+        say!(rt; "form");
         say::left(rt, code, &[denominator, strike]);
     }
-    true
+    Some(())
 }
 
-pub fn clock(rt: &impl Print, s: &[u8]) -> bool {
-    if s.len() != 8 {
-        return false;
-    }
+pub fn clock(rt: &impl Print, s: &[u8]) -> Option<()> {
+    let timestamp = u64::from_le_bytes(*s.as_array()?);
     let mut hours = 7;
     let mut minutes = 8;
     let mut seconds = 9;
     let mut milliseconds = 10;
     let code = door::skurzelt_clock(
-        cell::get(s, 0, 8),
+        timestamp,
         &mut hours,
         &mut minutes,
         &mut seconds,
         &mut milliseconds,
     );
-    say::text(rt, b"clock");
+    say!(rt; "clock");
     if code == 0 {
         show::time(rt, hours, minutes, seconds, milliseconds);
     } else {
         say::left(rt, code, &[hours, minutes, seconds, milliseconds]);
     }
-    true
+    Some(())
 }

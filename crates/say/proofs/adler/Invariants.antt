@@ -1,10 +1,6 @@
--- `say::adler` is safe and ends: both halves of the sum stay below the modulus.
-use Prim.Native.Nat.{◌-◌, ◌≤◌, ◌<◌}
-use lib.ListN.{length}
+-- `say::adler` is safe: both halves of the sum stay below the modulus.
+use Prim.Native.Nat.{◌<◌}
 use Rattle.say.proofs.adler.Given as goal
 
-abbrev pub invariant-loop-i : goal.invariant-loop-i
-invariant-loop-i l = (l.i ≤ length l.s) × (l.a < 65521) × (l.b < 65521)
-
-abbrev pub decreases-loop-i : goal.decreases-loop-i
-decreases-loop-i l = length l.s - l.i
+abbrev pub invariant-loop-x : goal.invariant-loop-x
+invariant-loop-x l = (l.a < 65521) × (l.b < 65521)

@@ -20,9 +20,13 @@ room_for_all n m k e h = rw e h
 pub build-requires : goal.build-requires
 build-requires c =
     let made = c.make_empty in
-    let before = c.args.t.now in
-    record { t_value = begun_sound before (never_refused before c.requires.nonzero made.ensures) c.requires.nonzero; in_bounds = c.requires.in_bounds.0; t_in_bounds = room_for_all _ _ _ made.auto.t c.requires.in_bounds.1 }
+    record {
+      t_value = begun_sound c.args.t.now (never_refused c.args.t.now c.requires.nonzero made.ensures) c.requires.nonzero;
+      in_bounds = c.requires.in_bounds.0;
+      t_in_bounds = room_for_all _ _ _ made.auto.t c.requires.in_bounds.1;
+    }
 
 pub returns : goal.returns
 returns c =
-    record { t_after = never_refused c.args.t.now c.requires.nonzero c.make_empty.ensures; beside = c.build.ensures }
+    let after = never_refused c.args.t.now c.requires.nonzero c.make_empty.ensures in
+    record { t_after = after; t_sound = begun_sound c.args.t.now after c.requires.nonzero; beside = c.build.ensures }

@@ -8,17 +8,16 @@ use lib.ListN.{length}
 use lib.Seq.{length-sets}
 use Rattle.table.specs.Tables.{limit_of, sound}
 use Rattle.row.specs.Writes.{Wrote}
-use Rattle.feed.specs.Steps.{between, finished, held_in, room_at_end}
+use Rattle.feed.specs.Steps.{between_of, finished, Held, room_at_end}
 use Rattle.feed.proofs.Finishing.{finished_most}
-use borrow.Author.Rules.{rules}
 use Rattle.sheet_run.proofs.end.Goals as goal
 
-written_inside : (held : List ℕ) (l : ℕ) (t before : List ℕ) {out : List ℕ} {n : ℕ} → sound t ≡ true → room_at_end (limit_of (length t)) ≤ length before
-    → Wrote (finished (between held l t)) before out n → n ≤ length out
-written_inside held l t before e h w =
-    omega (arith, w.long, ap length w.out, length-sets before 0 (finished (between held l t)), finished_most held l t e)
+written_inside : (hold : Held) (t before : List ℕ) {out : List ℕ} {n : ℕ} → sound t ≡ true → room_at_end (limit_of (length t)) ≤ length before
+    → Wrote (finished (between_of hold t)) before out n → n ≤ length out
+written_inside hold t before e h w =
+    omega (arith, w.long, ap length w.out, length-sets before 0 (finished (between_of hold t)), finished_most hold.piece hold.line t e)
 
 pub say-requires : goal.say-requires
 say-requires g c =
     let a = c.args in
-    written_inside (held_in a.hold.now a.held) a.line a.t.now a.out.now (search rules) (search rules) c.finish-n.ensures.wrote
+    written_inside a.hold.now a.t.now a.out.now c.requires.t_value c.requires.t_in_bounds c.finish-n.ensures.wrote

@@ -1,13 +1,14 @@
 -- `trial_chunks::feed_all` is safe: its table has the least limit and room for an index, and its output has room for the end of the text.
 use native.Mathlib.Omega.{arith}
-use mathlib.Core.Path.{sym}
-use Rattle.table.proofs.Limits.{limit_is}
-use Rattle.feed.proofs.Finishing.{least_room}
 use borrow.Author.Rules.{rules}
+use Rattle.sheet_run.proofs.Leading.{least_table}
 use Rattle.trial_chunks.proofs.feed_all.Goals as goal
 
-pub feed_good-requires : goal.feed_good-requires
-feed_good-requires g c =
-    let table = c.table_buffer-table in
-    let room = least_room table.result (sym table.ensures) in
-    record { nonzero = room.0; in_bounds = (omega (arith, c.heads_buffer-heads.ensures), omega (arith, c.nexts_buffer-nexts.ensures, limit_is _ (sym table.ensures))); hold_len = search rules; t_in_bounds = omega (arith, room.1, c.output-out.ensures) }
+pub feed_in-requires : goal.feed_in-requires
+feed_in-requires g c =
+    record {
+      longest_le_room = search rules;
+      nonzero = least_table.0;
+      in_bounds = (omega (arith, c.heads_buffer-heads.ensures), omega (arith, least_table.1, c.nexts_buffer-nexts.ensures));
+      t_in_bounds = omega (arith, least_table.2);
+    }
