@@ -20,7 +20,8 @@ pub fn begin(t: &mut [u8], heads: &mut [u16], nexts: &mut [u16])
     ensures t_sound { sound t.new ≡ true }
     ensures beside { Beside t.new heads.new nexts.new }
 {
-    table::make_empty(t);
+    // A buffer of such a length is never refused.
+    let _ = table::make_empty(t);
     lookup::build(t, heads, nexts);
 }
 

@@ -3,15 +3,16 @@ use Prim.Native.Nat.{ℕ, ◌≤◌, ◌<◌}
 use mathlib.Core.Path.{◌≡◌, ap, ◌∙◌}
 use mathlib.Core.List.{List, []}
 use lib.ListN.{length}
+use Rattle.std.specs.Prelude.{Result}
+use Rattle.refusal.specs.declared.Refusal.{Refusal}
 use Rattle.table.specs.Promises.{Makes}
 use Rattle.table.specs.Tables.{limit_of, made_from}
-use Rattle.table.specs.declared.Made.{Made}
 use Rattle.table.proofs.Making.{taken}
 use Rattle.book.specs.Bytes.{bytes_after}
 use Rattle.sheet_run.proofs.Leading.{begun_sound}
 use Rattle.sheet_run.proofs.begin.Goals as goal
 
-never_refused : (before : List ℕ) {x : Made} {after : List ℕ} → 0 < limit_of (length before) → Makes before x after → after ≡ bytes_after before []
+never_refused : (before : List ℕ) {x : Result (Unit {0}) Refusal} {after : List ℕ} → 0 < limit_of (length before) → Makes before x after → after ≡ bytes_after before []
 never_refused before meant m = m.out ∙ ap (λ a. made_from a before) (taken before meant)
 
 room_for_all : (n m k : ℕ) → n ≡ m → limit_of m ≤ k → limit_of n ≤ k
