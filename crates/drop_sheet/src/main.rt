@@ -3,12 +3,12 @@
 #![tactic(auto)]
 
 ghost use Rattle.std.specs.Prelude.{◌≤◌, ◌<◌, ◌≡◌, true, [], length, OnOk};
-ghost use Rattle.table.specs.Tables.{limit_of, sound};
-ghost use Rattle.lookup.specs.Beside.{Beside};
+ghost use Rattle.table.specs.Tables.{limit_of};
 ghost use Rattle.feed.specs.Steps.{between_of, longest, room_at_end};
 ghost use Rattle.sheet_run.specs.Promises.{Prints, Reads};
 
 use feed::Hold;
+use lookup::Day;
 use std::io::{Eprint, ErrorKind, Input, Print, Read};
 use std::process::ExitCode;
 use std::{fmt, io};
@@ -82,9 +82,9 @@ fn run<R: Input + Print>(
     ensures { OnOk result (Prints t.old out.new) }
 {
     let mut hold = Hold::at(1);
-    sheet_run::begin(t, heads, nexts);
-    read_all(rt, t, heads, nexts, &mut hold, input, out)?;
-    sheet_run::end(&mut io::writer(rt), t, heads, nexts, &hold, out)?;
+    let mut day = sheet_run::begin(t, heads, nexts);
+    read_all(rt, &mut day, &mut hold, input, out)?;
+    sheet_run::end(&mut io::writer(rt), &mut day, &hold, out)?;
     Ok(())
 }
 
@@ -92,18 +92,14 @@ fn run<R: Input + Print>(
 // number that no run uses up; one that did would not have read its input.
 fn read_all<R: Input + Print>(
     rt: &R,
-    t: &mut [u8],
-    heads: &mut [u16],
-    nexts: &mut [u16],
+    day: &mut Day<'_>,
     hold: &mut Hold,
     input: &mut [u8],
     out: &mut [u8],
 ) -> Result<(), Failure>
-    requires t_value { sound t.old ≡ true }
-    requires beside { Beside t.old heads.old nexts.old }
     requires longest_in_bounds { longest ≤ length out.old }
-    ensures reads { Reads (between_of hold.old t.old) result t.new hold.new }
-    ensures beside_2 { Beside t.new heads.new nexts.new }
+    ensures reads { Reads (between_of hold.old day.old.table.now) result day.new.table.now hold.new }
+    ensures long { length day.new.table.now ≡ length day.old.table.now }
 {
     let mut reader = rt.reader();
     for _ in 0..u64::MAX {
@@ -112,7 +108,7 @@ fn read_all<R: Input + Print>(
             return Ok(());
         }
         let chunk = &input[..n];
-        sheet_run::take(&mut io::writer(rt), chunk, t, heads, nexts, hold, out)?;
+        sheet_run::take(&mut io::writer(rt), chunk, day, hold, out)?;
     }
     Err(Failure::Unread)
 }

@@ -27,6 +27,7 @@ pub struct Fed {
 // The pieces of a chunk, one after another. It stops where the output might have no room for a refusal line, so that nothing is lost.
 pub fn step(chunk: &[u8], day: &mut Day<'_>, hold: &mut Hold, out: &mut [u8]) -> Fed
     ensures fits { Fits (step_from (length out.old) (between_of hold.old day.old.table.now) chunk.now) out.old result day.new.table.now hold.new out.new }
+    ensures long { length day.new.table.now ≡ length day.old.table.now }
     ensures same { day.new.table.ghost_name ≡ day.old.table.ghost_name }
 {
     let mut used = 0;

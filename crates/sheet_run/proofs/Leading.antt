@@ -5,6 +5,7 @@ use mathlib.Core.Path.{◌≡◌, refl, sym, ◌∙◌, ap}
 use mathlib.Core.Bool.{true}
 use mathlib.Core.List.{List, [], ◌++◌, append_assoc, append-nil}
 use lib.ListN.{length, replicate, take, length-replicate}
+use lib.Seq.{length-sets}
 use Rattle.std.specs.Prelude.{Ok}
 use Rattle.table.specs.Tables.{least_limit, limit_of, sound, table_length}
 use Rattle.run.proofs.Parts.{part_whole}
@@ -43,6 +44,10 @@ least_table = lent 47240 (sym least_length)
         let zeros = length-replicate {A = ℕ} n 0 in
         let room = rw zeros at (least_room (replicate n 0) (zeros ∙ e)) in
         (room.0, sym (limit_is n e), room.1)
+
+-- the empty table is as long as the buffer that it was made in
+pub begun_long : (before : List ℕ) {begun : List ℕ} → begun ≡ bytes_after before [] → length begun ≡ length before
+begun_long before b = ap length b ∙ length-sets before 0 (replicate 8 0)
 
 -- room for the end of the text stays where table and output buffer keep their lengths
 pub room_kept : {table first out before : ℕ} → table ≡ first → out ≡ before → room_at_end (limit_of first) ≤ before → room_at_end (limit_of table) ≤ out

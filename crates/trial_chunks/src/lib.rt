@@ -2,11 +2,11 @@
 #![tactic(auto)]
 
 ghost use Rattle.std.specs.Prelude.{◌≤◌, ◌<◌, ◌≡◌, true, length};
-ghost use Rattle.table.specs.Tables.{limit_of, sound};
-ghost use Rattle.lookup.specs.Beside.{Beside};
+ghost use Rattle.table.specs.Tables.{limit_of};
 ghost use Rattle.feed.specs.Steps.{longest, room_at_end};
 
 use feed::Hold;
+use lookup::Day;
 use say::say;
 use std::io;
 use std::io::Print;
@@ -49,18 +49,9 @@ fn feed_in(
     requires t_in_bounds { room_at_end (limit_of (length t.old)) ≤ length out.old }
 {
     let mut hold = Hold::at(1);
-    sheet_run::begin(t, heads, nexts);
-    feed_chunks(
-        rt,
-        text,
-        sizes,
-        t,
-        heads,
-        nexts,
-        &mut hold,
-        &mut out[..room],
-    );
-    let _ = sheet_run::end(&mut io::writer(rt), t, heads, nexts, &hold, out);
+    let mut day = sheet_run::begin(t, heads, nexts);
+    feed_chunks(rt, text, sizes, &mut day, &mut hold, &mut out[..room]);
+    let _ = sheet_run::end(&mut io::writer(rt), &mut day, &hold, out);
 }
 
 // The sizes are taken in turn, and from the first again when they are used up.
@@ -68,23 +59,18 @@ fn feed_chunks(
     rt: &impl Print,
     text: &[u8],
     sizes: &[[u8; 2]],
-    t: &mut [u8],
-    heads: &mut [u16],
-    nexts: &mut [u16],
+    day: &mut Day<'_>,
     hold: &mut Hold,
     out: &mut [u8],
 )
-    requires t_value { sound t.old ≡ true }
-    requires beside { Beside t.old heads.old nexts.old }
-    requires longest_in_bounds { longest ≤ length out.old }
-    ensures t_after { sound t.new ≡ true }
-    ensures beside_2 { Beside t.new heads.new nexts.new }
+    requires { longest ≤ length out.old }
+    ensures { length day.new.table.now ≡ length day.old.table.now }
 {
     let mut turns = sizes.iter().cycle();
     let mut rest = text;
     while !rest.is_empty() {
         let n = chunk_length(turns.next(), rest.len());
-        let _ = sheet_run::take(&mut io::writer(rt), &rest[..n], t, heads, nexts, hold, out);
+        let _ = sheet_run::take(&mut io::writer(rt), &rest[..n], day, hold, out);
         rest = &rest[n..];
     }
 }

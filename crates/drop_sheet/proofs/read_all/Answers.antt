@@ -8,4 +8,4 @@ pub loop-preserved : goal.loop-preserved
 loop-preserved g c =
     let one = c.take in
     let inv = c.loop.invariant in
-    (more_read {x = between_of c.args.hold.now c.args.t.now} inv.0 c.in_ok-take.ensures.takes, one.ensures.beside_2, one.auto.t ∙ inv.2, one.auto.heads ∙ inv.3, one.auto.nexts ∙ inv.4, c.read.auto.buf ∙ inv.5, one.auto.out ∙ inv.6)
+    (more_read {x = between_of c.args.hold.now c.args.day.now.table.now} inv.0 c.in_ok-take.ensures.takes, one.ensures.long ∙ inv.1, c.read.auto.buf ∙ inv.2, one.auto.out ∙ inv.3)

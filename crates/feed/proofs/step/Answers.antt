@@ -34,7 +34,7 @@ pub returns-then-chunk-end-ne-LF : goal.returns-then-chunk-end-ne-LF
 returns-then-chunk-end-ne-LF c =
     let inv = c.loop-used.invariant in
     let kept = c.keep.ensures in
-    record { fits = keeps_begun inv.0 c.cut-cut.result.end c.loop-used-test.true c.cut-cut.ensures.ends c.if-chunk-end-ne-LF.true kept.piece kept.line; same = inv.1 }
+    record { fits = keeps_begun inv.0 c.cut-cut.result.end c.loop-used-test.true c.cut-cut.ensures.ends c.if-chunk-end-ne-LF.true kept.piece kept.line; long = inv.0.table; same = inv.1 }
 
 pub overflow_sub-out : goal.overflow_sub-out
 overflow_sub-out c = search (rules, same_long c.loop-used.invariant.0)
@@ -45,7 +45,7 @@ shape_of-out-then-out-wrote-lt-LONGEST c = same_long c.loop-used.invariant.0
 pub returns-then-out-wrote-lt-LONGEST : goal.returns-then-out-wrote-lt-LONGEST
 returns-then-out-wrote-lt-LONGEST c =
     let inv = c.loop-used.invariant in
-    record { fits = stops inv.0 c.cut-cut.result.end c.loop-used-test.true c.cut-cut.ensures.ends c.if-chunk-end-ne-LF.false c.if-out-wrote-lt-LONGEST.true; same = inv.1 }
+    record { fits = stops inv.0 c.cut-cut.result.end c.loop-used-test.true c.cut-cut.ensures.ends c.if-chunk-end-ne-LF.false c.if-out-wrote-lt-LONGEST.true; long = inv.0.table; same = inv.1 }
 
 pub book_part-wrote-requires : goal.book_part-wrote-requires
 book_part-wrote-requires c =
@@ -71,4 +71,4 @@ shape_of-out c = same_long c.loop-used.invariant.0
 pub returns : goal.returns
 returns c =
     let inv = c.loop-used.invariant in
-    record { fits = at_chunk_end inv.0 c.loop-used-test.false; same = inv.1 }
+    record { fits = at_chunk_end inv.0 c.loop-used-test.false; long = inv.0.table; same = inv.1 }

@@ -18,16 +18,14 @@ never_refused before meant m = m.out ∙ ap (λ a. made_from a before) (taken be
 room_for_all : (n m k : ℕ) → n ≡ m → limit_of m ≤ k → limit_of n ≤ k
 room_for_all n m k e h = rw e h
 
-pub build-requires : goal.build-requires
-build-requires c =
+pub indexed-requires : goal.indexed-requires
+indexed-requires c =
     let made = c.make_empty in
     record {
-      t_value = begun_sound c.args.t.now (never_refused c.args.t.now c.requires.nonzero made.ensures) c.requires.nonzero;
-      in_bounds = c.requires.in_bounds.0;
-      t_in_bounds = room_for_all _ _ _ made.auto.t c.requires.in_bounds.1;
+      sound = begun_sound c.args.table.now (never_refused c.args.table.now c.requires.nonzero made.ensures) c.requires.nonzero;
+      some = c.requires.in_bounds.0;
+      room = room_for_all _ _ _ made.auto.t c.requires.in_bounds.1;
     }
 
-pub returns : goal.returns
-returns c =
-    let after = never_refused c.args.t.now c.requires.nonzero c.make_empty.ensures in
-    record { t_after = after; t_sound = begun_sound c.args.t.now after c.requires.nonzero; beside = c.build.ensures }
+pub returns-clause-t_after : goal.returns-clause-t_after
+returns-clause-t_after c = c.indexed.ensures.table ∙ never_refused c.args.table.now c.requires.nonzero c.make_empty.ensures

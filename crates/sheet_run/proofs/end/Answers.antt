@@ -20,4 +20,4 @@ written_inside hold t before e h w =
 pub say-requires : goal.say-requires
 say-requires g c =
     let a = c.args in
-    written_inside a.hold.now a.t.now a.out.now c.requires.t_value c.requires.t_in_bounds c.finish-n.ensures.wrote
+    written_inside a.hold.now a.day.now.table.now a.out.now a.day.now.sound c.requires.t_in_bounds c.finish-n.ensures.wrote

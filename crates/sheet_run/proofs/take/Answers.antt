@@ -22,8 +22,8 @@ pub loop-used-preserved : goal.loop-used-preserved
 loop-used-preserved g c =
     let step = c.step-fed in
     let inv = c.loop-used.invariant in
-    (next_turn inv.0 c.loop-used-test.true c.requires.longest_in_bounds step.ensures.fits step.ensures.t_after step.auto.t, step.ensures.beside_2, step.auto.heads ∙ inv.2, step.auto.nexts ∙ inv.3)
+    (next_turn inv.0 c.loop-used-test.true c.requires.longest_in_bounds step.ensures.fits step.new.day.sound step.ensures.long, step.ensures.same ∙ inv.1)
 
 pub returns : goal.returns
 returns g c = let inv = c.loop-used.invariant in
-    record { takes = record { leads = all_taken inv.0 c.loop-used-test.false; sound = inv.0.good }; beside_2 = inv.1 }
+    record { takes = record { leads = all_taken inv.0 c.loop-used-test.false; sound = inv.0.good }; long = inv.0.table; same = inv.1 }

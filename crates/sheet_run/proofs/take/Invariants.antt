@@ -2,18 +2,15 @@
 use Prim.Native.Nat.{◌-◌}
 use mathlib.Core.Path.{◌≡◌}
 use lib.ListN.{length}
-use Rattle.lookup.specs.Beside.{Beside}
 use Rattle.feed.specs.Steps.{between_of}
 use Rattle.sheet_run.proofs.Turns.{Turn}
 use Rattle.sheet_run.proofs.take.Given as goal
 
--- the turn, the index beside the table, and the index's buffers of the same length
+-- the turn, over the table that was lent
 abbrev pub invariant-loop-used : goal.invariant-loop-used
 invariant-loop-used g l =
-    Turn (between_of l.initial.hold l.initial.t) l.chunk l.initial.t l.initial.out l.t l.hold l.out l.used
-    × Beside l.t l.heads l.nexts
-    × (length l.heads ≡ length l.initial.heads)
-    × (length l.nexts ≡ length l.initial.nexts)
+    Turn (between_of l.initial.hold l.initial.day.table.now) l.chunk l.initial.day.table.now l.initial.out l.day.table.now l.hold l.out l.used
+    × (l.day.table.ghost_name ≡ l.initial.day.table.ghost_name)
 
 abbrev pub decreases-loop-used : goal.decreases-loop-used
 decreases-loop-used g l = length l.chunk - l.used
