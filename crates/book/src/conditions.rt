@@ -1,14 +1,12 @@
 // What the conditions of refusals 7 to 12 ask of a line: of its event, and of the order that it speaks of, by value.
 ghost use Rattle.std.specs.Prelude.{◌≡◌};
 ghost use Rattle.order.specs.Figure.{Sound};
-ghost use Rattle.order.specs.Names.{same_series};
 ghost use Rattle.day.specs.History.{is_execution, is_maker, is_new, is_replace};
 ghost use Rattle.day.specs.Quotes.{is_fill};
 ghost use Rattle.day.specs.Machine.{found, differs as machine_differs, not_open, not_executed};
 ghost use Rattle.book.specs.Plans.{order_with};
 
 use layout::{Event, Record};
-use order::Series;
 use slot::Asked;
 
 pub fn is_new(event: Event) -> bool
@@ -42,24 +40,10 @@ pub fn is_replace(event: Event) -> bool
     matches!(event, Event::Replaced)
 }
 
-fn same_series(a: Series, b: Series) -> bool
-    ensures { result ≡ same_series a b }
-{
-    let ours = a.root;
-    let theirs = b.root;
-    run::same(&ours, &theirs)
-        & (a.month == b.month)
-        & (a.date == b.date)
-        & (a.year == b.year)
-        & (a.denominator == b.denominator)
-        & (a.strike == b.strike)
-}
-
 pub fn differs(a: Asked, r: Record) -> bool
     ensures { result ≡ machine_differs r (found (order_with a)) }
 {
-    let series = a.series;
-    !((a.side == r.side) & same_series(series, order::series_of(r)))
+    !((a.side == r.side) & (a.series == order::series_of(r)))
 }
 
 pub fn not_open(a: Asked, r: Record) -> bool

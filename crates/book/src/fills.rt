@@ -18,9 +18,7 @@ use table::header;
 fn is_of_quote(r: Record) -> bool
     ensures { result ≡ (is_fill r.event && names_quote r.token) }
 {
-    let event = r.event;
-    let token = r.token;
-    conditions::is_fill(event) & quote::names_quote(&token)
+    conditions::is_fill(r.event) & quote::names_quote(&r.token)
 }
 
 #[tactic(auto, using(table::proofs::Sound::header_there))]
@@ -44,8 +42,7 @@ pub fn plan_fill(t: &[u8], r: Record) -> Result<Plan, Refusal>
 fn plan_first(n: usize, r: Record) -> Result<Plan, Refusal>
     ensures { result ≡ plan_row n 0 none r }
 {
-    let event = r.event;
-    if !conditions::is_execution(event) {
+    if !conditions::is_execution(r.event) {
         return Err(Refusal::UnknownKey);
     }
     if quote::most_rows() <= n {
@@ -62,8 +59,7 @@ fn plan_row(i: usize, w: QuoteRow, r: Record) -> Result<Plan, Refusal>
     ensures { result ≡ plan_row 0 i (seen w) r }
 {
     let n = r.contracts;
-    let event = r.event;
-    if conditions::is_execution(event) {
+    if conditions::is_execution(r.event) {
         if MOST_EXECUTED - w.executed < n {
             return Err(Refusal::RowFull);
         }

@@ -9,7 +9,7 @@ mod store;
 use order::Figures;
 pub use store::{book, book_sound};
 
-// What a line does to a table. What the record says is taken from the record.
+// What a line does to a table. Each line makes one, so it is small: what the record or a quote row says is taken from there.
 #[derive(Clone, Copy)]
 pub(crate) enum Plan {
     // One order more, of a line that has no elder.

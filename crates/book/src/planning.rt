@@ -38,7 +38,13 @@ impl Lent<'_> {
             return None;
         }
         let key = &piece[layout::SOURCE..layout::REPLACED];
-        lookup::find(self.t, self.heads, self.nexts, lookup::bucket(self.heads, key), key)
+        lookup::find(
+            self.t,
+            self.heads,
+            self.nexts,
+            lookup::bucket(self.heads, key),
+            key,
+        )
     }
 
     // 6 and 7 first, as 01 has them. Of an A only 12 is left then; any other line is about an order of the table, or about a quote row.
@@ -51,11 +57,10 @@ impl Lent<'_> {
         if header::is_over(self.t) {
             return Err(Refusal::DayOver);
         }
-        let event = r.event;
-        if conditions::is_maker(event) & own.is_some() {
+        if conditions::is_maker(r.event) & own.is_some() {
             return Err(Refusal::KnownKey);
         }
-        if !conditions::is_new(event) {
+        if !conditions::is_new(r.event) {
             return self.plan_older(own, r);
         }
         if is_full(self.t) {
@@ -69,8 +74,7 @@ impl Lent<'_> {
         requires own_value { place_no own ≡ place (key_of r) (table_in self.now.t.now).orders }
         ensures { place_no result ≡ place (refusals_subject r) (table_in self.now.t.now).orders }
     {
-        let event = r.event;
-        if !conditions::is_replace(event) {
+        if !conditions::is_replace(r.event) {
             return own;
         }
         lookup::find_key(self.t, self.heads, self.nexts, order::elder_key_of(r))
@@ -112,8 +116,7 @@ fn plan_about(i: usize, a: Asked, r: Record, full: bool) -> Result<Plan, Refusal
     if conditions::not_executed(a, r) {
         return Err(Refusal::NotExecuted);
     }
-    let event = r.event;
-    if conditions::is_maker(event) & full {
+    if conditions::is_maker(r.event) & full {
         return Err(Refusal::Full);
     }
     Ok(plan_by(i, a, r))
@@ -127,8 +130,7 @@ fn plan_by(i: usize, a: Asked, r: Record) -> Plan
     ensures { result ≡ plan_by r.event i a.figures r }
 {
     let f = a.figures;
-    let event = r.event;
-    match event {
+    match r.event {
         Event::Accepted => Plan::New,
         Event::Executed(_) => Plan::Change(i, f.execute(r.contracts)),
         Event::Cancelled => Plan::Change(i, f.cancel(r.contracts)),
