@@ -45,7 +45,6 @@ pub fn find_indexed(
     requires b_value { b ≡ bucket_of (length heads.now) key.now }
     ensures { place_no result ≡ place (key_in key.now) (orders_in 0 n t.now) }
 {
-    // A part whose length the compiler knows, as above.
     let index = Index {
         t,
         keys: keys(),
@@ -53,5 +52,6 @@ pub fn find_indexed(
         heads,
         nexts,
     };
+    // A part whose length the compiler knows, as above.
     index.find_in(b, &key[0..KEY])
 }
