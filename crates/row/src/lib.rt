@@ -1,7 +1,7 @@
 // The heading of the sheet and a row of it: the order at a place, its family and its place in it; and the line of a quote row.
 #![tactic(auto)]
 
-ghost use Rattle.std.specs.Prelude.{◌+◌, ◌≤◌, ◌≡◌, length, take};
+ghost use Rattle.std.specs.Prelude.{◌+◌, ◌≤◌, ◌≡◌, length};
 ghost use Rattle.slot.specs.Slots.{order_in};
 ghost use Rattle.slot.specs.Places.{slot, SlotInside};
 ghost use Rattle.row.specs.Texts.{column, decimal, figures_text, names_text, rank_text, order_text, traded_text, trimmed};
@@ -14,15 +14,17 @@ pub mod quotes;
 use order::Figures;
 use slot::{HEADER, KEY, SLOT, offset};
 
-// How much of a run is left without the spaces on its right.
-fn unpadded(s: &[u8]) -> usize
-    ensures { (result ≡ length (trimmed s.now)) × (trimmed s.now ≡ take result s.now) }
+// A run without the spaces on its right.
+fn unpadded(s: &[u8]) -> &[u8]
+    ensures { result.now ≡ trimmed s.now }
 {
-    let mut n = s.len();
-    while 0 < n && s[n - 1] == b' ' {
-        n -= 1;
+    let mut left = s;
+    while let Some((last, rest)) = left.split_last()
+        && *last == b' '
+    {
+        left = rest;
     }
-    n
+    left
 }
 
 fn put_rank(out: &mut [u8], at: usize, family: u64, rank: u64) -> usize
@@ -67,14 +69,14 @@ fn put_names(out: &mut [u8], at: usize, source: &[u8], token: &[u8]) -> usize
     requires { at + length (names_text source.now token.now) ≤ length out.old }
     ensures { Put (names_text source.now token.now) at out.old out.new result }
 {
-    let n = unpadded(token);
+    let name = unpadded(token);
     run::store(out, at, b" ");
     run::store(out, at + 1, source);
     let mid = at + 1 + source.len();
     run::store(out, mid, b" ");
-    run::store(out, mid + 1, &token[0..n]);
-    run::store(out, mid + 1 + n, b"\n");
-    mid + 2 + n
+    run::store(out, mid + 1, name);
+    run::store(out, mid + 1 + name.len(), b"\n");
+    mid + 2 + name.len()
 }
 
 fn figures_length(f: Figures) -> usize
@@ -99,7 +101,7 @@ pub fn length(t: &[u8], i: usize, family: u64, rank: u64) -> usize
     decimal::digits(family)
         + decimal::digits(rank)
         + figures
-        + unpadded(&t[at + offset::TOKEN..at + KEY])
+        + unpadded(&t[at + offset::TOKEN..at + KEY]).len()
         + 10
 }
 
