@@ -1,4 +1,5 @@
 // The heading of the sheet and a row of it: the order at a place, its family and its place in it; and the line of a quote row.
+// Each text is put at a place, and the place behind it is the answer: a struct that held the buffer would promise beside each text that it still holds the same one.
 #![tactic(auto)]
 
 ghost use Rattle.std.specs.Prelude.{◌+◌, ◌≤◌, ◌≡◌, length};
@@ -27,6 +28,7 @@ fn unpadded(s: &[u8]) -> &[u8]
     left
 }
 
+#[tactic(auto, using(crate::proofs::Puts::rank_length))]
 fn put_rank(out: &mut [u8], at: usize, family: u64, rank: u64) -> usize
     requires { at + length (rank_text family rank) ≤ length out.old }
     ensures { Put (rank_text family rank) at out.old out.new result }
@@ -46,6 +48,7 @@ fn put_column(out: &mut [u8], at: usize, n: u64) -> usize
 }
 
 // The first three figures. A function of its own, since the prover reads only so many facts of one.
+#[tactic(auto, using(crate::proofs::Puts::traded_length))]
 fn put_traded(out: &mut [u8], at: usize, f: Figures) -> usize
     requires { at + length (traded_text f) ≤ length out.old }
     ensures { Put (traded_text f) at out.old out.new result }
@@ -55,6 +58,7 @@ fn put_traded(out: &mut [u8], at: usize, f: Figures) -> usize
     put_column(out, executed, f.broken)
 }
 
+#[tactic(auto, using(crate::proofs::Puts::figures_length))]
 fn put_figures(out: &mut [u8], at: usize, f: Figures) -> usize
     requires { at + length (figures_text f) ≤ length out.old }
     ensures { Put (figures_text f) at out.old out.new result }
@@ -79,6 +83,7 @@ fn put_names(out: &mut [u8], at: usize, source: &[u8], token: &[u8]) -> usize
     mid + 2 + name.len()
 }
 
+#[tactic(auto, using(crate::proofs::Decimals::decimal_most, crate::proofs::Puts::traded_length, crate::proofs::Puts::figures_length))]
 fn figures_length(f: Figures) -> usize
     ensures { result ≡ length (figures_text f) }
 {
@@ -91,6 +96,7 @@ fn figures_length(f: Figures) -> usize
         + decimal::digits(f.open)
 }
 
+#[tactic(auto, using(crate::proofs::Decimals::decimal_most, crate::proofs::Lent::figures_most, crate::proofs::Lent::token_most))]
 pub fn length(t: &[u8], i: usize, family: u64, rank: u64) -> usize
     requires { SlotInside i t.now }
     ensures { result ≡ length (order_text family rank (order_in (slot t.now i))) }
