@@ -1,6 +1,6 @@
 -- "Numbers have no fill": a decimal is digits, the fewest, and reads back as its number.
-use Prim.Native.Nat.{ℕ, zero, suc, ◌+◌, ◌/◌, ◌%◌, ◌^◌, ◌≤◌, ◌<◌}
-use native.Mathlib.Nat.{pow-suc}
+use Prim.Native.Nat.{ℕ, zero, suc, max, ◌+◌, ◌*◌, ◌/◌, ◌%◌, ◌^◌, ◌≤◌, ◌<◌}
+use native.Mathlib.Nat.{pow-suc, pow-le-pow_right}
 use native.Mathlib.Omega.{arith}
 use mathlib.Core.Path.{◌≡◌, refl, sym, ap, ◌∙◌}
 use mathlib.Core.Bool.{Bool, true, false, cond}
@@ -87,6 +87,29 @@ below_within (suc v) (suc w) n h = go (ltb n 10) (below_within v w (n / 10) (ome
 pub decimal_length : (n w : ℕ) → 1 ≤ w → n < 10 ^ w → (1 ≤ length (decimal n)) × (length (decimal n) ≤ w)
 decimal_length n zero p h = absurd (omega arith)
 decimal_length n (suc w) p h = (decimal_some n, below_within 20 w n h)
+
+-- where it has k digits behind the first
+digits_least : (w k n : ℕ) → k < w → 10 ^ k ≤ n → suc k ≤ length (decimal_in w n)
+digits_least zero k n h l = absurd (omega arith)
+digits_least (suc w) zero n h l = go (ltb n 10)
+  where
+    go : (t : Bool) → 1 ≤ length (cond t ((48 + n) ∷ []) (decimal_in w (n / 10) ++ ((48 + n % 10) ∷ [])))
+    go true = omega arith
+    go false = omega (arith, length_snoc (decimal_in w (n / 10)) (48 + n % 10))
+digits_least (suc w) (suc k) n h l =
+    let ten : 10 ^ 1 ≤ 10 ^ suc k = pow-le-pow_right {n = 10} (omega arith) {i = 1} {j = suc k} (omega arith) in
+    let big : 10 ≤ n = omega arith in
+    let less : 10 ^ k ≤ n / 10 = omega (arith, pow-suc 10 k) in
+    rw (decimal_more w n big, length_snoc (decimal_in w (n / 10)) (48 + n % 10)) (omega (arith, digits_least w k (n / 10) (omega arith) less))
+
+-- the digits behind the first by the power of ten, 0 counting as 1 does
+pub decimal_digits : (k n m : ℕ) → m ≡ max n 1 → k < 20 → 10 ^ k ≤ m → m < 10 * 10 ^ k → k + 1 ≡ length (decimal n)
+decimal_digits zero n m e h least most = omega (arith, decimal_length n 1 (omega arith) (omega arith))
+decimal_digits (suc k) n m e h least most =
+    let ten : 10 ^ 1 ≤ 10 ^ suc k = pow-le-pow_right {n = 10} (omega arith) {i = 1} {j = suc k} (omega arith) in
+    let same : m ≡ n = omega arith in
+    let some = digits_least 20 (suc k) n h (rw same at least) in
+    omega (arith, decimal_length n (suc (suc k)) (omega arith) (omega (arith, pow-suc 10 (suc k))))
 
 -- a larger number has as many digits or more
 decimal_in_grows : (w n m : ℕ) → n ≤ m → length (decimal_in w n) ≤ length (decimal_in w m)

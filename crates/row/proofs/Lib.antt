@@ -1,7 +1,5 @@
 -- A number has the fewest digits and reads back
 pub mod Decimals
--- What the loop over a number's digits keeps
-pub mod Counting
 -- A run without the spaces on its right
 pub mod Trimming
 -- Texts written one behind the other are one text

@@ -1,10 +1,9 @@
 -- Texts that are written one right behind the other are one text; how long the texts of a row are.
-use Prim.Native.Nat.{ℕ, ◌+◌, ◌-◌, ◌^◌, ◌<◌}
-use native.Mathlib.Nat.{sub-zero}
+use Prim.Native.Nat.{ℕ, ◌+◌, ◌^◌, ◌<◌}
 use native.Mathlib.Omega.{arith}
 use mathlib.Core.Path.{◌≡◌, refl, sym, ap, ◌∙◌}
 use mathlib.Core.List.{List, [], ◌∷◌, ◌++◌}
-use lib.ListN.{length, length-append, take}
+use lib.ListN.{length, length-append}
 use lib.Seq.{sets}
 use Rattle.field.specs.Number.{filled}
 use Rattle.order.specs.declared.Figures.{Figures}
@@ -39,17 +38,16 @@ pub from_front : {text before after : List ℕ} {r : ℕ} → Put text 0 before 
 from_front p = record { long = omega (arith, p.end); out = p.out }
 
 -- a space, the Source, a space, the Token without its padding, an LF
-pub names_put : (source token l₀ l₁ l₂ l₃ l₄ l₅ : List ℕ) (at n : ℕ) → n ≡ length (trimmed token) → trimmed token ≡ take n token
+pub names_put : (source token l₀ l₁ l₂ l₃ l₄ l₅ : List ℕ) (at n : ℕ) → n ≡ length (trimmed token)
     → l₁ ≡ sets l₀ at (32 ∷ []) → l₂ ≡ sets l₁ (at + 1) source → l₃ ≡ sets l₂ (at + 1 + length source) (32 ∷ [])
-    → l₄ ≡ sets l₃ (at + 1 + length source + 1) (take (n - 0) token) → l₅ ≡ sets l₄ (at + 1 + length source + 1 + n) (10 ∷ [])
+    → l₄ ≡ sets l₃ (at + 1 + length source + 1) (trimmed token) → l₅ ≡ sets l₄ (at + 1 + length source + 1 + n) (10 ∷ [])
     → Put (names_text source token) at l₀ l₅ (at + 1 + length source + 2 + n)
-names_put source token l₀ l₁ l₂ l₃ l₄ l₅ at n long left a b c d e =
-    let name : l₄ ≡ sets l₃ (at + 1 + length source + 1) (trimmed token) = d ∙ rw (sub-zero, left) in
+names_put source token l₀ l₁ l₂ l₃ l₄ l₅ at n long a b c d e =
     let behind : at + 1 + length source + 1 + n ≡ at + 1 + length source + 1 + length (trimmed token) = omega arith in
     let space : Put (32 ∷ []) at l₀ l₁ (at + 1) = run_put (32 ∷ []) a in
     let first : Put (32 ∷ source) at l₀ l₂ (at + 1 + length source) = then space (run_put source b) in
     let gap : Put (32 ∷ []) (at + 1 + length source) l₂ l₃ (at + 1 + length source + 1) = run_put (32 ∷ []) c in
-    let second : Put (32 ∷ trimmed token) (at + 1 + length source) l₂ l₄ (at + 1 + length source + 1 + length (trimmed token)) = then gap (run_put (trimmed token) name) in
+    let second : Put (32 ∷ trimmed token) (at + 1 + length source) l₂ l₄ (at + 1 + length source + 1 + length (trimmed token)) = then gap (run_put (trimmed token) d) in
     let all = then (then first second) (run_put (10 ∷ []) (rw behind at e)) in
     record { end = omega (arith, all.end); out = all.out }
 

@@ -5,16 +5,11 @@ ghost use Rattle.row.specs.Writes.{Put};
 
 use field::put;
 
+#[tactic(auto, using(crate::proofs::Decimals::decimal_digits))]
 pub fn digits(n: u64) -> usize
     ensures { result ≡ length (decimal n) }
 {
-    let mut rest = n;
-    let mut count = 1;
-    while 10 <= rest {
-        rest = rest / 10;
-        count += 1;
-    }
-    count
+    n.max(1).ilog10() as usize + 1
 }
 
 // Answers the place behind the last digit.

@@ -5,6 +5,7 @@ ghost use Rattle.row.specs.Writes.{Wrote};
 
 use crate::decimal;
 
+#[tactic(auto, using(crate::proofs::Decimals::decimal_most))]
 pub fn length(orders: u64, families: u64) -> usize
     ensures { result ≡ length (texts_heading orders families) }
 {
@@ -12,6 +13,7 @@ pub fn length(orders: u64, families: u64) -> usize
     18 + decimal::digits(orders) + decimal::digits(families)
 }
 
+#[tactic(auto, using(crate::proofs::Puts::heading_length))]
 pub fn write(orders: u64, families: u64, out: &mut [u8]) -> usize
     requires { length (texts_heading orders families) ≤ length out.old }
     ensures { Wrote (texts_heading orders families) out.old out.new result }

@@ -1,7 +1,8 @@
 // The heading of the sheet and a row of it: the order at a place, its family and its place in it; and the line of a quote row.
+// Each text is put at a place, and the place behind it is the answer: a struct that held the buffer would promise beside each text that it still holds the same one.
 #![tactic(auto)]
 
-ghost use Rattle.std.specs.Prelude.{◌+◌, ◌≤◌, ◌≡◌, length, take};
+ghost use Rattle.std.specs.Prelude.{◌+◌, ◌≤◌, ◌≡◌, length};
 ghost use Rattle.slot.specs.Slots.{order_in};
 ghost use Rattle.slot.specs.Places.{slot, SlotInside};
 ghost use Rattle.row.specs.Texts.{column, decimal, figures_text, names_text, rank_text, order_text, traded_text, trimmed};
@@ -14,17 +15,20 @@ pub mod quotes;
 use order::Figures;
 use slot::{HEADER, KEY, SLOT, offset};
 
-// How much of a run is left without the spaces on its right.
-fn unpadded(s: &[u8]) -> usize
-    ensures { (result ≡ length (trimmed s.now)) × (trimmed s.now ≡ take result s.now) }
+// A run without the spaces on its right.
+fn unpadded(s: &[u8]) -> &[u8]
+    ensures { result.now ≡ trimmed s.now }
 {
-    let mut n = s.len();
-    while 0 < n && s[n - 1] == b' ' {
-        n -= 1;
+    let mut left = s;
+    while let Some((last, rest)) = left.split_last()
+        && *last == b' '
+    {
+        left = rest;
     }
-    n
+    left
 }
 
+#[tactic(auto, using(crate::proofs::Puts::rank_length))]
 fn put_rank(out: &mut [u8], at: usize, family: u64, rank: u64) -> usize
     requires { at + length (rank_text family rank) ≤ length out.old }
     ensures { Put (rank_text family rank) at out.old out.new result }
@@ -44,6 +48,7 @@ fn put_column(out: &mut [u8], at: usize, n: u64) -> usize
 }
 
 // The first three figures. A function of its own, since the prover reads only so many facts of one.
+#[tactic(auto, using(crate::proofs::Puts::traded_length))]
 fn put_traded(out: &mut [u8], at: usize, f: Figures) -> usize
     requires { at + length (traded_text f) ≤ length out.old }
     ensures { Put (traded_text f) at out.old out.new result }
@@ -53,6 +58,7 @@ fn put_traded(out: &mut [u8], at: usize, f: Figures) -> usize
     put_column(out, executed, f.broken)
 }
 
+#[tactic(auto, using(crate::proofs::Puts::figures_length))]
 fn put_figures(out: &mut [u8], at: usize, f: Figures) -> usize
     requires { at + length (figures_text f) ≤ length out.old }
     ensures { Put (figures_text f) at out.old out.new result }
@@ -67,16 +73,17 @@ fn put_names(out: &mut [u8], at: usize, source: &[u8], token: &[u8]) -> usize
     requires { at + length (names_text source.now token.now) ≤ length out.old }
     ensures { Put (names_text source.now token.now) at out.old out.new result }
 {
-    let n = unpadded(token);
+    let name = unpadded(token);
     run::store(out, at, b" ");
     run::store(out, at + 1, source);
     let mid = at + 1 + source.len();
     run::store(out, mid, b" ");
-    run::store(out, mid + 1, &token[0..n]);
-    run::store(out, mid + 1 + n, b"\n");
-    mid + 2 + n
+    run::store(out, mid + 1, name);
+    run::store(out, mid + 1 + name.len(), b"\n");
+    mid + 2 + name.len()
 }
 
+#[tactic(auto, using(crate::proofs::Decimals::decimal_most, crate::proofs::Puts::traded_length, crate::proofs::Puts::figures_length))]
 fn figures_length(f: Figures) -> usize
     ensures { result ≡ length (figures_text f) }
 {
@@ -89,6 +96,7 @@ fn figures_length(f: Figures) -> usize
         + decimal::digits(f.open)
 }
 
+#[tactic(auto, using(crate::proofs::Decimals::decimal_most, crate::proofs::Lent::figures_most, crate::proofs::Lent::token_most))]
 pub fn length(t: &[u8], i: usize, family: u64, rank: u64) -> usize
     requires { SlotInside i t.now }
     ensures { result ≡ length (order_text family rank (order_in (slot t.now i))) }
@@ -99,7 +107,7 @@ pub fn length(t: &[u8], i: usize, family: u64, rank: u64) -> usize
     decimal::digits(family)
         + decimal::digits(rank)
         + figures
-        + unpadded(&t[at + offset::TOKEN..at + KEY])
+        + unpadded(&t[at + offset::TOKEN..at + KEY]).len()
         + 10
 }
 

@@ -11,6 +11,7 @@ use quote_slot::{ROW, offset};
 use slot::offset::TOKEN;
 
 // All before the Source. A function of its own, since the prover reads only so many facts of one.
+#[tactic(auto, using(crate::proofs::Puts::fills_length))]
 fn put_fills(out: &mut [u8], id: &[u8], executed: u64, broken: u64) -> usize
     requires { length (fills_text id.now executed broken) ≤ length out.old }
     ensures { Put (fills_text id.now executed broken) 0 out.old out.new result }
@@ -21,6 +22,7 @@ fn put_fills(out: &mut [u8], id: &[u8], executed: u64, broken: u64) -> usize
     put_column(out, end, broken)
 }
 
+#[tactic(auto, using(crate::proofs::Puts::line_length))]
 fn put_line(out: &mut [u8], id: &[u8], executed: u64, broken: u64, source: &[u8]) -> usize
     requires { length (line_text id.now executed broken source.now) ≤ length out.old }
     ensures { Wrote (line_text id.now executed broken source.now) out.old out.new result }
@@ -32,6 +34,7 @@ fn put_line(out: &mut [u8], id: &[u8], executed: u64, broken: u64, source: &[u8]
     end + 2 + source.len()
 }
 
+#[tactic(auto, using(crate::proofs::Decimals::decimal_most))]
 pub fn length(t: &[u8], base: usize, i: usize) -> usize
     requires { RowInside base i t.now }
     ensures { result ≡ length (quote_text (row_in (record_of (rows base) t.now i))) }

@@ -1,21 +1,8 @@
 -- `row::put_figures` meets its contract: three columns behind the first three.
-use native.Mathlib.Omega.{arith}
 use Rattle.row.specs.Texts.{column, decimal, traded_text}
 use Rattle.row.specs.Writes.{Put}
-use Rattle.row.proofs.Puts.{then, figures_length}
+use Rattle.row.proofs.Puts.{then}
 use Rattle.row.proofs.put_figures.Goals as goal
-
-pub put_traded-traded-requires : goal.put_traded-traded-requires
-put_traded-traded-requires c = omega (arith, figures_length c.args.f)
-
-pub put_column-cancelled-requires : goal.put_column-cancelled-requires
-put_column-cancelled-requires c = omega (arith, figures_length c.args.f)
-
-pub put_column-passed-requires : goal.put_column-passed-requires
-put_column-passed-requires c = omega (arith, figures_length c.args.f)
-
-pub put_column-requires : goal.put_column-requires
-put_column-requires c = omega (arith, figures_length c.args.f)
 
 pub returns : goal.returns
 returns c =

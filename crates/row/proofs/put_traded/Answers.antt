@@ -1,18 +1,8 @@
 -- `row::put_traded` meets its contract: three columns, each right behind the other.
-use native.Mathlib.Omega.{arith}
 use Rattle.row.specs.Texts.{column, decimal}
 use Rattle.row.specs.Writes.{Put}
-use Rattle.row.proofs.Puts.{then, traded_length}
+use Rattle.row.proofs.Puts.{then}
 use Rattle.row.proofs.put_traded.Goals as goal
-
-pub put_column-size-requires : goal.put_column-size-requires
-put_column-size-requires c = omega (arith, traded_length c.args.f)
-
-pub put_column-executed-requires : goal.put_column-executed-requires
-put_column-executed-requires c = omega (arith, traded_length c.args.f)
-
-pub put_column-requires : goal.put_column-requires
-put_column-requires c = omega (arith, traded_length c.args.f)
 
 pub returns : goal.returns
 returns c =

@@ -1,12 +1,11 @@
--- `row::unpadded` meets its contract: nothing but padding stands behind the first n bytes, and the last of them is none.
-use Prim.Native.Nat.{◌≤◌}
+-- `row::unpadded` meets its contract: nothing but padding stands behind what is left.
 use mathlib.Core.Path.{◌≡◌}
-use lib.ListN.{length, take}
+use lib.ListN.{length}
 use Rattle.row.specs.Texts.{trimmed}
 use Rattle.row.proofs.unpadded.Given as goal
 
-abbrev pub invariant-loop-n : goal.invariant-loop-n
-invariant-loop-n l = (l.n ≤ length l.s) × (trimmed l.s ≡ trimmed (take l.n l.s))
+abbrev pub invariant-loop-last : goal.invariant-loop-last
+invariant-loop-last l = trimmed l.s ≡ trimmed l.left
 
-abbrev pub decreases-loop-n : goal.decreases-loop-n
-decreases-loop-n l = l.n
+abbrev pub decreases-loop-last : goal.decreases-loop-last
+decreases-loop-last l = length l.left

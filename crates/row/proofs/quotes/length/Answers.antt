@@ -1,15 +1,7 @@
 -- `row::quotes::length` meets its contract: the digits of two sums, and the 32 bytes that every such line has.
 use native.Mathlib.Omega.{arith}
-use borrow.Author.Rules.{rules}
-use Rattle.row.proofs.Decimals.{decimal_most}
 use Rattle.row.proofs.LentQuote.{line_long}
 use Rattle.row.proofs.quotes.length.Goals as goal
-
-pub overflow_add-result : goal.overflow_add-result
-overflow_add-result c = search (rules, decimal_most c.get.result)
-
-pub overflow_add-result-2 : goal.overflow_add-result-2
-overflow_add-result-2 c = search (rules, decimal_most c.get.result, decimal_most c.get-2.result)
 
 pub returns : goal.returns
 returns c =

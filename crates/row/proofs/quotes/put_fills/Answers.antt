@@ -1,24 +1,8 @@
 -- `row::quotes::put_fills` meets its contract: the word, the id and two columns, each right behind the other.
-use native.Mathlib.Omega.{arith}
 use Rattle.row.specs.Texts.{column, decimal, quote_word}
 use Rattle.row.specs.Writes.{Put}
-use Rattle.row.proofs.Puts.{run_put, then, fills_length}
+use Rattle.row.proofs.Puts.{run_put, then}
 use Rattle.row.proofs.quotes.put_fills.Goals as goal
-
-pub store-requires-2 : goal.store-requires-2
-store-requires-2 c =
-    let a = c.args in
-    omega (arith, fills_length a.id.now a.executed a.broken)
-
-pub put_column-end-requires : goal.put_column-end-requires
-put_column-end-requires c =
-    let a = c.args in
-    omega (arith, fills_length a.id.now a.executed a.broken)
-
-pub put_column-requires : goal.put_column-requires
-put_column-requires c =
-    let a = c.args in
-    omega (arith, fills_length a.id.now a.executed a.broken)
 
 pub returns : goal.returns
 returns c =
