@@ -1,4 +1,5 @@
 -- The tender's demand 1, proved: every answer is 0 or a numbered refusal, and what is refused is left as it was.
+use Rattle.std.proofs.Common.{Option, unwrap_or}
 use Prim.Native.Nat.{ℕ, zero, suc, ◌<◌, ◌/◌, ◌%◌}
 use native.Mathlib.Omega.{arith}
 use mathlib.Core.Path.{◌≡◌, refl, sym, ap, ◌∙◌}
@@ -94,12 +95,15 @@ read_told s = go (read_line s) (read_says s refl)
 abbrev OfField : ℕ → Type 0
 OfField n = eqb n 0 ≡ false → Told {A = Unit {0}} (refused 3 n)
 
-unmeant_told : (b : List ℕ) → OfField (unmeant b)
+unmeant_told : (b : List ℕ) → OfField (unwrap_or (unmeant b) 0)
 unfolding unmeant
 unmeant_told b =
-    both OfField (odd b 2) (λ e. field 2 refl)
-    (both OfField (odd b 6) (λ e. field 6 refl)
-    (both OfField (odd b 22) (λ e. field 22 refl) (both OfField (odd b 23) (λ e. field 23 refl) (both OfField (odd b 24) (λ e. field 24 refl) none))))
+    both Odd (odd b 2) (λ e. field 2 refl)
+    (both Odd (odd b 6) (λ e. field 6 refl)
+    (both Odd (odd b 22) (λ e. field 22 refl) (both Odd (odd b 23) (λ e. field 23 refl) (both Odd (odd b 24) (λ e. field 24 refl) none))))
+  where
+    Odd : Option ℕ → Type 0
+    Odd o = OfField (unwrap_or o 0)
 
 -- as a buffer that has the room is told
 unlawful_told : (r : Record) → OfField (unlawful r)
@@ -112,7 +116,7 @@ unwritable_told : (b : List ℕ) → OfField (unwritable b)
 unfolding unwritable
 unwritable_told b =
     both OfField (eqb (length b) 138)
-    (sooner_told (unmeant b) (unlawful (record_in b)) (unmeant_told b) (unlawful_told (record_in b)))
+    (sooner_told (unwrap_or (unmeant b) 0) (unlawful (record_in b)) (unmeant_told b) (unlawful_told (record_in b)))
     (λ e. field 24 refl)
 
 write_told : (b : List ℕ) → Told {A = Unit {0}} (cond (eqb (unwritable b) 0) (value tt) (refused 3 (unwritable b)))

@@ -1,9 +1,3 @@
--- Each way out of an entry that asks one function
-pub mod Answered
--- From a piece to a record's bytes: each way out
-pub mod Readings
--- Which comes sooner, an odd byte or an unlawful field
-pub mod Named
 -- From a record's bytes to a line: each way out
 pub mod Writings
 -- Every answer is 0 or numbered, and refusals change nothing

@@ -1,51 +1,32 @@
 -- The ways out of writing the bytes of a record as a line, each as the promise says it.
-use Prim.Native.Nat.{ℕ, ◌*◌, ◌+◌, ◌≤◌, ◌<◌}
-use native.Mathlib.Omega.{arith}
-use mathlib.Core.Path.{◌≡◌, sym, ap, ◌∙◌}
-use mathlib.Core.Bool.{false}
-use mathlib.Core.List.{List}
-use borrow.Author.Tests.{lt-ltb, le-ltb, ne_eqb}
+use Rattle.std.proofs.Common.{ℕ, ◌+◌, ◌*◌, ◌≤◌, ◌≡◌, ◌∙◌, sym, ap, Some, None, Result, false, List, length, arith}
+use borrow.Author.Tests.{le-ltb, ne_eqb}
 use lib.Dec.{ltb}
-use lib.ListN.{length}
-use Rattle.refusal.specs.Answer.{code_for}
+use Rattle.refusal.specs.Answer.{answer_of, code_of}
 use Rattle.refusal.specs.declared.Refusal.{Refusal}
-use Rattle.layout.specs.Line.{out_after, unlawful, write}
+use Rattle.layout.specs.Line.{unlawful, write}
 use Rattle.layout.specs.declared.Record.{Record}
-use Rattle.writing.specs.Promises.{wrote_of, Write}
-use Rattle.writing.specs.declared.Written.{Written}
-use Rattle.writing.specs.declared.Written.TheVariants.{Done, Refused}
+use Rattle.writing.specs.Promises.{Write}
 use Rattle.image.specs.Images.{record_in, sooner, unmeant, unwritable}
 use Rattle.door.specs.Promises.{write_answer, Writes}
-use Rattle.door.proofs.Answered.{says_value, says_refusal}
-use Rattle.image.proofs.Sooner.{other_length, in_the_way, odd_in_the_way, rule_in_the_way}
+use Rattle.image.proofs.Sooner.{other_length, odd_in_the_way, rule_in_the_way}
 
-module _ (b before : List ℕ) where
-  pub no_room : (k : ℕ) → length before < 140 → k ≡ 4 → Writes b before k before
-  no_room k h c = let short = lt-ltb (length before) 140 h in record { said = rw short c; out = rw short }
+module _ (b before : List ℕ) (room : 140 ≤ length before) where
+  long : ltb (length before) 140 ≡ false
+  long = le-ltb (length before) 140 room
 
-  module _ (room : 140 ≤ length before) where
-    long : ltb (length before) 140 ≡ false
-    long = le-ltb (length before) 140 room
+  in_way : (f k : ℕ) → f ≡ unwritable b → (unwritable b ≡ 0 → ⊥) → k ≡ 3 + 256 * f → Writes b before k before
+  in_way f k e h c = let some = ne_eqb (unwritable b) 0 h in record { said = rw (long, some) (c ∙ rw e); out = rw (long, some) }
 
-    in_way : (f k : ℕ) → f ≡ unwritable b → (unwritable b ≡ 0 → ⊥) → k ≡ 3 + 256 * f → Writes b before k before
-    in_way f k e h c = let some = ne_eqb (unwritable b) 0 h in record { said = rw (long, some) (c ∙ rw e); out = rw (long, some) }
+  pub no_record : (length b ≡ 138 → ⊥) → {k : ℕ} → k ≡ 3 + 256 * 24 → Writes b before k before
+  no_record h {k} c = let e = other_length b h in in_way 24 k e (λ z. absurd (omega arith)) c
 
-    pub no_record : (k : ℕ) → (length b ≡ 138 → ⊥) → k ≡ 3 + 256 * 24 → Writes b before k before
-    no_record k h c = let e = other_length b h in in_way 24 k e (λ z. absurd (omega arith)) c
+  module _ (whole : length b ≡ 138) where
+    pub odd_byte : {odd f k : ℕ} → unmeant b ≡ Some odd → f ≡ sooner odd (unlawful (record_in b)) → k ≡ 3 + 256 * f → Writes b before k before
+    odd_byte {odd} {f} {k} q e c = let way = odd_in_the_way b whole odd q in in_way f k (e ∙ way.0) way.1 c
 
-    module _ (whole : length b ≡ 138) (u : ℕ) (q : u ≡ unmeant b) where
-      pub odd_byte : (f k : ℕ) → (u ≡ 0 → ⊥) → f ≡ sooner u (unlawful (record_in b)) → k ≡ 3 + 256 * f → Writes b before k before
-      odd_byte f k h e c = in_way f k (e ∙ rw q (in_the_way b whole)) (odd_in_the_way b whole (λ z. h (q ∙ z))) c
-
-      module _ (none : u ≡ 0) (r : Record) (x : Written) (after : List ℕ) (e : r ≡ record_in b) (h : Write r before x after) where
-        answered : write_answer b before ≡ write r before
-        answered = rw (long, ← rule_in_the_way b whole (sym q ∙ none), e)
-
-        out_is : after ≡ out_after (write_answer b before) (record_in b) before
-        out_is = h.out ∙ rw (answered, e)
-
-        pub written : x ≡ Done → Writes b before 0 after
-        written d = record { said = says_value (ap wrote_of (sym d) ∙ h.said ∙ sym answered); out = out_is }
-
-        pub unwritten : (y : Refusal) (k : ℕ) → x ≡ Refused y → k ≡ code_for y → Writes b before k after
-        unwritten y k d c = record { said = says_refusal (ap wrote_of (sym d) ∙ h.said ∙ sym answered) c; out = out_is }
+    pub written : unmeant b ≡ None → {r : Record} {x : Result (Unit {0}) Refusal} {after : List ℕ} {k : ℕ} → r ≡ record_in b → Write r before x after
+        → k ≡ code_of (answer_of x) → Writes b before k after
+    written none {r} e h c =
+        let answered : write_answer b before ≡ write r before = rw (long, ← rule_in_the_way b whole none, e) in
+        record { said = c ∙ ap code_of (h.said ∙ sym answered); out = h.out ∙ rw (answered, e) }

@@ -1,5 +1,5 @@
 -- What each entry of the door promises: the one number that it answers, and each lent number and byte.
-use Rattle.std.specs.Prelude.{ℕ, ◌≡◌, cond, List, ltb, eqb, length}
+use Rattle.std.specs.Prelude.{ℕ, ◌≡◌, cond, unwrap_or, List, ltb, eqb, length}
 use Rattle.std.proofs.lemmas.List.Edits.{sets}
 use Rattle.refusal.specs.Answer.{Answer, value, refused, code_of}
 use Rattle.layout.specs.Clocks.{clock}
@@ -18,8 +18,6 @@ use Rattle.book_all.specs.Promises.{book_all_answer, table_from, answers_from}
 use Rattle.book_all.specs.declared.Used.{Used}
 use Rattle.sheet.specs.Promises.{sheet_answer, sheet_from}
 use Rattle.piece.specs.Pieces.{next_piece}
-use Rattle.piece.specs.declared.Ahead.{Ahead}
-use Rattle.piece.specs.declared.Ahead.TheVariants.{Piece, Nothing}
 use Rattle.image.specs.Images.{image_of, record_in, unwritable}
 
 -- a lent number afterwards: a refusal leaves it alone
@@ -128,12 +126,7 @@ pub record SheetsIn (table before : List ℕ) (n r : ℕ) (after : List ℕ) (n'
 
 -- ---- texts
 
--- the place behind the next piece; where nothing is left, the place that was asked for
-abbrev pub end_of : Ahead → ℕ → ℕ
-end_of (Piece e) at = e
-end_of Nothing at = at
-
--- `skurzelt_next_piece`
+-- `skurzelt_next_piece`: the place behind the next piece; where nothing is left, the place that was asked for
 pub record NextPieces (text : List ℕ) (at r e' : ℕ) : Type 0 where
   pub said : r ≡ 0
-  pub told : e' ≡ end_of (next_piece text at) at
+  pub told : e' ≡ unwrap_or (next_piece text at) at

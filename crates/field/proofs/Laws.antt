@@ -1,7 +1,7 @@
 -- Laws of the numbers: each reader takes back what its writer wrote, and takes nothing else.
 use Prim.Native.Nat.{ℕ, zero, suc, ◌+◌, ◌-◌, ◌*◌, ◌/◌, ◌%◌, ◌^◌, ◌≤◌, ◌<◌}
 use native.Mathlib.Nat.{pow-suc, pow-le-pow_right}
-use native.Mathlib.Numerals.{add-one, add-four}
+use native.Mathlib.Numerals.{add-four}
 use native.Mathlib.Omega.{arith}
 use mathlib.Core.Path.{◌≡◌, refl, ap, ◌∙◌}
 use mathlib.Core.Bool.{Bool, true, false, cond, ◌&&◌}
@@ -23,9 +23,6 @@ pow10_mono i j h = pow-le-pow_right (omega arith) h
 -- what i lower halves of a byte can say
 abbrev pub Halves : ℕ → ℕ → Type 0
 Halves i v = 9 * v + 15 ≤ 15 * 10 ^ i
-
-pub halves_next : (i v d : ℕ) → Halves i v → d ≤ 15 → Halves (i + 1) (v * 10 + d)
-halves_next i v d h k = rw (add-one, pow-suc) (omega arith)
 
 four_more : (i : ℕ) → 10 ^ (i + 4) ≡ 10 ^ i * 10000
 four_more i = simp (add-four, pow-suc) (omega arith)

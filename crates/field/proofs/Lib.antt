@@ -2,7 +2,7 @@
 pub mod Fill
 -- Each reader takes what its writer wrote, and nothing else
 pub mod Laws
--- What a loop over a field's bytes keeps
+-- What a fold over a field's bytes says
 pub mod Scan
 -- What a reader's tests say of its answer
 pub mod Returns

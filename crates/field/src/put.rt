@@ -7,10 +7,7 @@ ghost use Rattle.field.specs.Number.{price_text, filled as number_filled};
 fn mark(v: u64, fill: u8) -> u8
     ensures { result ≡ cond (eqb v 0) fill (48 + v % 10) }
 {
-    if v == 0 {
-        return fill;
-    }
-    48 + (v % 10) as u8
+    if v == 0 { fill } else { 48 + (v % 10) as u8 }
 }
 
 // From the right, since that is where the digits fall out.
@@ -21,11 +18,9 @@ pub fn filled(out: &mut [u8], at: usize, width: usize, v: u64, fill: u8)
     if width == 0 {
         return;
     }
-    let mut left = width - 1;
-    out[at + left] = 48 + (v % 10) as u8;
+    out[at + (width - 1)] = 48 + (v % 10) as u8;
     let mut rest = v / 10;
-    while 0 < left {
-        left -= 1;
+    for left in (0..width - 1).rev() {
         out[at + left] = mark(rest, fill);
         rest = rest / 10;
     }

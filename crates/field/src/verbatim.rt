@@ -22,13 +22,7 @@ pub fn is_of(class: Class, b: u8) -> bool
 pub fn all_of(s: &[u8], class: Class) -> bool
     ensures { result ≡ all (is_of class) s.now }
 {
-    let mut good = true;
-    let mut i = 0;
-    while i < s.len() {
-        good = good & is_of(class, s[i]);
-        i += 1;
-    }
-    good
+    s.iter().fold(true, |good, b| good & is_of(class, *b))
 }
 
 // A text whose bytes are known to be printable: only its first byte is left to test.

@@ -6,7 +6,7 @@ use Rattle.run.specs.Runs.{part}
 use Rattle.section.specs.Sections.{start_of, record_of, Inside, KeyOf}
 use Rattle.section.specs.declared.Section.{Section}
 use Rattle.section.proofs.Places.{key_in_record}
-use Rattle.section.proofs.Stores.{kept_front, kept_gap, kept_past, stored_here, stored_elsewhere}
+use Rattle.section.proofs.Stores.{kept_front, kept_past, stored_here, stored_elsewhere}
 use Rattle.index.specs.Tags.{bucket_of}
 use Rattle.index.specs.Indexes.{latest, bucket_in, Indexed, Appends}
 use Rattle.index.proofs.Chains.{latest_same}

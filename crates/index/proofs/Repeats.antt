@@ -1,11 +1,11 @@
 -- The key of a record leads to that record exactly where no earlier one has it.
-use Rattle.std.proofs.Common.{◌≡◌, ℕ, zero, suc, ◌+◌, ◌<◌, Bool, true, ◌&&◌, eqb, List, Option, Some, None, sym, refl, ◌∙◌, add-one, arith, eq-eqb, ne_eqb}
+use Rattle.std.proofs.Common.{◌≡◌, ℕ, zero, suc, ◌+◌, ◌<◌, Bool, true, eqb, List, Option, Some, None, sym, refl, ◌∙◌, add-one, arith, eq-eqb, ne_eqb}
 use Rattle.std.proofs.Math.Dec.{eqb-zero-suc, eqb-suc-suc}
 use Rattle.std.specs.Option.{option_eq}
 use Rattle.run.proofs.Sameness.{same_self}
 use Rattle.section.specs.Sections.{record_of}
 use Rattle.section.specs.declared.Section.{Section}
-use Rattle.index.specs.Searches.{first_of, has_key, earliest, all_distinct, place_no}
+use Rattle.index.specs.Searches.{first_of, has_key, earliest, place_no}
 use Rattle.index.proofs.Firsts.{first_stays, first_hit}
 use Rattle.index.proofs.Meanings.{first_found}
 

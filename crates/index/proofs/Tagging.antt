@@ -1,24 +1,17 @@
 -- The tag by its words and by its last bytes, and the bucket by its upper part.
-use Rattle.std.proofs.Common.{◌≡◌, ℕ, zero, suc, ◌+◌, ◌-◌, ◌*◌, ◌/◌, ◌%◌, ◌^◌, ◌<◌, ◌≤◌, List, [], ◌∷◌, length, get_or, take, drop, ap, ◌∙◌, lt_of_lt_of_le, le_of_lt, mod-lt, div-lt_iff_lt-mul, add_comm, arith, length-drop, drop_of_length-le, take_all, drop-drop}
-use native.Mathlib.Nat.{mod-add-mod, lt-mul-div-succ}
+use Rattle.std.proofs.Common.{◌≡◌, ℕ, zero, suc, ◌+◌, ◌-◌, ◌*◌, ◌/◌, ◌%◌, ◌^◌, ◌<◌, ◌≤◌, List, [], ◌∷◌, length, take, drop, ap, ◌∙◌, lt_of_lt_of_le, le_of_lt, mod-lt, div-lt_iff_lt-mul, arith, drop-drop}
+use native.Mathlib.Nat.{lt-mul-div-succ}
 use Rattle.run.specs.Runs.{part}
-use Rattle.run.proofs.Scan.{at_next}
 use Rattle.cell.specs.Cells.{le}
 use Rattle.index.specs.Tags.{more, over_words, over_bytes, tag_of, bucket_of}
 
--- what is added may be cut to its lower 32 bits
-pub more_cut : (h w : ℕ) → more h (w % 2 ^ 32) ≡ more h w
-more_cut h w =
-    ap (λ x. x * 2654435761 % 2 ^ 32)
-    (ap (λ x. x % 2 ^ 32) (add_comm h (w % 2 ^ 32)) ∙ mod-add-mod w (2 ^ 32) h ∙ ap (λ x. x % 2 ^ 32) (add_comm w h))
-
 -- word j is taken, and n - (j + 1) are left
-pub word_next : (s : List ℕ) (n j h g : ℕ) → j < n → g ≡ more h (le (part s (4 * j) 4) % 2 ^ 32)
+pub word_next : (s : List ℕ) (n j h g : ℕ) → j < n → g ≡ more h (le (part s (4 * j) 4))
     → over_words (n - j) h (drop (4 * j) s) ≡ over_words (n - (j + 1)) g (drop (4 * (j + 1)) s)
 word_next s n j h g l e =
     let left : n - j ≡ suc (n - (j + 1)) = omega arith in
     let on : 4 * (j + 1) ≡ 4 * j + 4 = omega arith in
-    rw (left, on, e, more_cut, ← drop-drop 4 (4 * j) s)
+    rw (left, on, e, ← drop-drop 4 (4 * j) s)
 
 pub bucket_by : (m h b : ℕ) (k : List ℕ) → h ≡ tag_of k → b ≡ h / (2 ^ 32 / m + 1) → b ≡ bucket_of m k
 unfolding bucket_of

@@ -1,5 +1,5 @@
 -- 02, ticket 11: a short tag of the key, made of sums that wrap at 2 to the 32.
-use Rattle.std.specs.Prelude.{ℕ, zero, suc, ◌+◌, ◌*◌, ◌/◌, ◌%◌, ◌^◌, List, [], ◌∷◌, length, take, drop}
+use Rattle.std.specs.Prelude.{ℕ, zero, suc, ◌+◌, ◌*◌, ◌/◌, ◌%◌, ◌^◌, List, length, take, drop, fold}
 use Rattle.cell.specs.Cells.{le}
 
 -- what follows bytes whose tag is h is added, and the sum spread by an odd number over the bits above
@@ -13,8 +13,7 @@ over_words (suc n) h s = over_words n (more h (le (take 4 s))) (drop 4 s)
 
 -- and that of single bytes
 abbrev pub over_bytes : ℕ → List ℕ → ℕ
-over_bytes h [] = h
-over_bytes h (b ∷ s) = over_bytes (more h b) s
+over_bytes h s = fold more h s
 
 -- a key by its words, then by the bytes that are left
 abbrev pub tag_of : List ℕ → ℕ

@@ -20,14 +20,14 @@ fn more(h: u32, b: u32) -> u32
     (wrapping_add_u32(h, b) as u64 * SPREAD % TAGS) as u32
 }
 
+// Four bytes as one number: the compiler loads them at once.
 fn word(key: &[u8], at: usize) -> u32
     requires { at + 4 ≤ length key.now }
-    ensures { result ≡ le (part key.now at 4) % 2 ^ 32 }
+    ensures { result ≡ le (part key.now at 4) }
 {
-    (cell::get(key, at, 4) % TAGS) as u32
+    u32::from_le_bytes(run::array(key, at))
 }
 
-// Four bytes at a time, which the compiler loads as one number.
 fn over_words(key: &[u8], words: usize) -> u32
     requires { 4 * words ≤ length key.now }
     ensures { result ≡ over_words words 0 key.now }
@@ -42,11 +42,7 @@ fn over_words(key: &[u8], words: usize) -> u32
 fn over_bytes(h: u32, rest: &[u8]) -> u32
     ensures { result ≡ over_bytes h rest.now }
 {
-    let mut g = h;
-    for b in rest {
-        g = more(g, *b as u32);
-    }
-    g
+    rest.iter().fold(h, |g, b| more(g, u32::from(*b)))
 }
 
 fn tag(key: &[u8]) -> u32

@@ -102,7 +102,3 @@ module _ (s : List ℕ) {keys : Section} {n : ℕ} (q : keys ≡ slot_keys) (m :
       let needs : Builds slot_keys s (count_in s) heads nexts =
       record { holds = holds; some = h; room = omega arith; small = omega (arith, limit_small (length s)) } in
       rw (q, m) needs
-
-  pub built_beside : {heads nexts : List ℕ} (nexts₀ : List ℕ) → limit_of (length s) ≤ length nexts₀ → Indexed keys s n heads nexts → length nexts ≡ length nexts₀
-      → Beside s heads nexts
-  built_beside nexts₀ room x k = record { room = λ h. omega arith; indexed = λ h. rw (← q, ← m) x }

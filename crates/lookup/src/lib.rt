@@ -37,7 +37,7 @@ pub fn bucket(heads: &[u16], key: &[u8]) -> usize
     requires { length key.now ≡ 26 }
     ensures { Bucket heads.now key.now result }
 {
-    if heads.len() == 0 {
+    if heads.is_empty() {
         return 0;
     }
     index::bucket(&key[0..KEY], heads.len())
@@ -52,7 +52,7 @@ pub fn find(t: &[u8], heads: &[u16], nexts: &[u16], b: usize, key: &[u8]) -> Opt
     ensures { place_no result ≡ place (key_in key.now) (table_in t.now).orders }
 {
     let n = header::count(t) as usize;
-    if heads.len() == 0 {
+    if heads.is_empty() {
         return slot::find(t, n, key);
     }
     slot::find_indexed(t, n, heads, nexts, b, key)
@@ -79,7 +79,7 @@ pub fn append(t: &mut [u8], heads: &mut [u16], nexts: &mut [u16], o: Order)
 {
     let n = header::count(t) as usize;
     table::append(t, o);
-    if heads.len() == 0 {
+    if heads.is_empty() {
         return;
     }
     index::enter(t, slot::keys(), n, heads, nexts);

@@ -14,13 +14,13 @@ use Rattle.order.specs.Names.{same_key}
 use Rattle.order.specs.declared.Key.{Key}
 use Rattle.order.specs.declared.Order.{Order}
 use Rattle.day.specs.Machine.{place}
-use Rattle.section.specs.Sections.{record_of, Holds, KeyOf}
+use Rattle.section.specs.Sections.{record_of, KeyOf}
 use Rattle.section.specs.declared.Section.{Section}
 use Rattle.section.proofs.Places.{key_in_record}
 use Rattle.index.specs.Searches.{has_key, earliest}
 use Rattle.index.proofs.Listed.{earliest_listed}
 use Rattle.slot.specs.Slots.{slot_width, key_in, key_bytes, order_in}
-use Rattle.slot.specs.Places.{slots, slot_keys, slot_at, slot, orders_in}
+use Rattle.slot.specs.Places.{slots, slot_keys, slot, orders_in}
 use Rattle.slot.proofs.Runs.{length_key}
 
 pub keys_of_slots : KeyOf slot_keys slots

@@ -1,6 +1,6 @@
 -- What the place that a lookup answers says of the orders: which one is found, and which one a change by key changes.
 use Prim.Native.Nat.{ℕ, ◌+◌, ◌<◌}
-use mathlib.Core.Path.{◌≡◌, refl, sym, ap, ◌∙◌}
+use mathlib.Core.Path.{◌≡◌}
 use mathlib.Core.List.{List}
 use lib.ListN.{length, get_or, set}
 use Rattle.order.specs.declared.Key.{Key}
@@ -8,8 +8,6 @@ use Rattle.order.specs.declared.Order.{Order}
 use Rattle.day.specs.Machine.{nobody, found, find, place, amend}
 use Rattle.day.proofs.Firsts.{amend_first, find_first, find_none}
 use Rattle.day.proofs.Lookup.{key_finds, key_places, key_amends}
-use Rattle.std.specs.Prelude.{Option}
-use Rattle.slot.specs.Places.{orders_in, place_no}
 
 pub at_found : (k : Key) (os : List Order) (i : ℕ) (none : Order) → place k os ≡ i + 1
     → (i < length os) × (find k os ≡ found (get_or os i none))
@@ -21,7 +19,3 @@ amend_at k f os i none e = amend_first (key_places k) (key_amends k f) os i none
 
 pub nobody_found : (k : Key) (os : List Order) → place k os ≡ 0 → find k os ≡ nobody
 nobody_found k os e = find_none (key_places k) (key_finds k) os e
-
--- the answer of a search for k, q being what it is known to be
-pub place_known : (os : List Order) (p q : Option ℕ) (k l : Key) → place_no p ≡ place k os → p ≡ q → k ≡ l → place l os ≡ place_no q
-place_known os p q k l e f g = sym (ap (λ x. place x os) g) ∙ sym e ∙ ap place_no f

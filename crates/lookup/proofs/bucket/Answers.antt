@@ -1,13 +1,8 @@
 -- `lookup::bucket` meets its contract: without heads there is nothing to say.
-use mathlib.Core.Path.{ap, ◌∙◌}
-use native.Mathlib.Omega.{arith}
-use lib.ListN.{length}
+use Rattle.std.proofs.Common.{length, ap, ◌∙◌}
 use Rattle.index.specs.Tags.{bucket_of}
 use Rattle.slot.proofs.Keyed.{key_whole}
 use Rattle.lookup.proofs.bucket.Goals as goal
-
-pub returns-then-heads-eq0 : goal.returns-then-heads-eq0
-returns-then-heads-eq0 c = λ h. absurd (omega arith)
 
 pub returns : goal.returns
 returns c =

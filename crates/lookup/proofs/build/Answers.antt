@@ -1,6 +1,6 @@
 -- `lookup::build` meets its contract.
 use Rattle.table.proofs.Sound.{header_there}
-use Rattle.lookup.proofs.Beside.{build_needs, built_beside}
+use Rattle.lookup.proofs.Beside.{build_needs}
 use borrow.Author.Rules.{rules}
 use Rattle.lookup.proofs.build.Goals as goal
 
@@ -10,8 +10,3 @@ count-requires c = header_there c.args.t.now (search rules)
 pub build-requires : goal.build-requires
 build-requires c =
     build_needs c.args.t.now c.keys.ensures c.count.ensures _ _ c.requires.t_value c.requires.in_bounds c.requires.t_in_bounds
-
-pub returns : goal.returns
-returns c =
-    let built = c.build.ensures in
-    built_beside c.args.t.now c.keys.ensures c.count.ensures c.args.nexts.now c.requires.t_in_bounds built.indexed built.nexts_long

@@ -1,12 +1,15 @@
--- `field::verbatim::all_of` meets its contract: what was seen so far, and the rest, give the whole answer.
+-- `field::verbatim::all_of` meets its contract.
+use mathlib.Core.Path.{◌∙◌}
+use mathlib.Core.Bool.{true, ◌&&◌}
 use borrow.Author.Rules.{rules}
-use Rattle.run.proofs.Scan.{all_next, all_end}
+use borrow.Author.Tests.{tests}
+use Rattle.std.proofs.lemmas.Iterator.{YieldsList-from_slice}
+use Rattle.std.proofs.lemmas.Iterator.Consumers.{fold_from_yields_List}
+use Rattle.field.specs.Byte.{is_of}
+use Rattle.field.proofs.Scan.{all_folded}
 use Rattle.field.proofs.verbatim.all_of.Goals as goal
 
-pub loop-i-preserved : goal.loop-i-preserved
-loop-i-preserved c =
-    let l = c.loop-i in
-    (search rules, all_next _ _ l.i l.good c.is_of-good.result (search rules) c.is_of-good.ensures l.invariant.1)
-
 pub returns : goal.returns
-returns c = all_end _ _ c.loop-i.i _ (search rules) c.loop-i.invariant.1
+returns c =
+    fold_from_yields_List _ (λ good b. good && is_of c.args.class b) true c.fold.result c.fold.ensures.ran (YieldsList-from_slice c.args.s.now (cc)) (λ a x b q k. search (rules, tests))
+    ∙ all_folded (is_of c.args.class) c.args.s.now
