@@ -1,13 +1,11 @@
 -- What an event puts into the fields that go by its type.
 use mathlib.Core.Path.{◌≡◌, refl}
-use mathlib.Core.Bool.{true, ◌&&◌}
+use mathlib.Core.Bool.{true}
 use mathlib.Core.List.{[], ◌∷◌}
-use lib.Dec.{leb}
 use Rattle.run.specs.Runs.{member}
-use Rattle.message.specs.Rule.{code, verbatim, blank, lawful, writes}
-use Rattle.message.specs.Values.{one}
-use Rattle.layout.specs.Layout.{types, liquidities, on_trade, trade_id}
-use Rattle.layout.specs.Records.{type_of, trade_of, liquidity_of, match_of, cross_of}
+use Rattle.message.specs.Rule.{code, verbatim, blank, writes}
+use Rattle.layout.specs.Layout.{types, liquidities, on_trade}
+use Rattle.layout.specs.Records.{type_of, trade_of, liquidity_of}
 use Rattle.layout.specs.declared.Event.{Event}
 use Rattle.layout.specs.declared.Event.TheVariants.{Accepted, Executed, Cancelled, Broken, Replaced, Repriced}
 use Rattle.layout.specs.declared.Trade.{Trade}
@@ -26,15 +24,6 @@ by_event P a e x c u r Repriced = r
 
 pub type_lawful : (e : Event) → member (type_of e) types ≡ true
 type_lawful = by_event _ refl (λ t. refl) refl (λ t. refl) refl refl
-
-pub liquidity_value : (e : Event) → one (trade_of e).liquidity ≡ liquidity_of e
-liquidity_value = by_event _ refl (λ t. refl) refl (λ t. refl) refl refl
-
-pub match_lawful : (e : Event) → (leb 0 (trade_of e).match_id && leb (trade_of e).match_id 999999999) ≡ lawful (trade_id (type_of e)) 9 (match_of e)
-match_lawful = by_event _ refl (λ t. refl) refl (λ t. refl) refl refl
-
-pub cross_lawful : (e : Event) → (leb 0 (trade_of e).cross_id && leb (trade_of e).cross_id 999999999) ≡ lawful (trade_id (type_of e)) 9 (cross_of e)
-cross_lawful = by_event _ refl (λ t. refl) refl (λ t. refl) refl refl
 
 pub liquidity_text : (e : Event) → ((trade_of e).liquidity ∷ []) ≡ writes (on_trade (type_of e) (code liquidities) (verbatim blank)) 1 (liquidity_of e)
 liquidity_text = by_event _ refl (λ t. refl) refl (λ t. refl) refl refl

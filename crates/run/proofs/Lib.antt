@@ -1,6 +1,6 @@
 -- Tests joined by and, and by or
 pub mod Tests
--- What a loop over a run keeps
+-- A run from a byte on
 pub mod Scan
 -- All bytes of runs joined and cut, of a wider test; a byte of one
 pub mod All

@@ -4,10 +4,9 @@ use native.Mathlib.Nat.{mul-le-mul_left, mul-add}
 use native.Mathlib.Omega.{arith}
 use mathlib.Core.Path.{◌≡◌, sym, ap, ◌∙◌}
 use mathlib.Core.List.{List}
-use lib.ListN.{length, take, drop}
-use lib.Seq.{sets, length-sets}
+use lib.ListN.{length}
 use Rattle.run.specs.Runs.{part}
-use Rattle.section.specs.Sections.{start_of, record_of, Inside, Holds, KeyOf}
+use Rattle.section.specs.Sections.{start_of, record_of, Inside, KeyOf}
 use Rattle.section.specs.declared.Section.{Section}
 use Rattle.run.proofs.Parts.{length_part, part_part}
 
