@@ -14,6 +14,7 @@ use Rattle.field.specs.Byte.{is_of}
 use Rattle.field.specs.Number.{digits_after, rest, filled}
 use Rattle.field.specs.declared.Class.TheVariants.{Digit}
 use Rattle.std.specs.Prelude.{Option, Some, None}
+use Rattle.std.proofs.lemmas.Option.{none-some}
 
 -- ---- tests and what they guard
 
@@ -23,13 +24,10 @@ between a b x e = let h = (and-eq-true_iff (leb a x) (leb x b)).0 e in (leb-true
 pub is_between : (a b x : ℕ) → a ≤ x → x ≤ b → (leb a x && leb x b) ≡ true
 is_between a b x h k = rw (le-leb a x h, le-leb x b k)
 
-pub bad_value : {v : ℕ} → None ≡ Some v → ⊥
-bad_value e = let z : ◌≡◌ {A = ℕ} 0 1 = cc in omega arith
-
 -- where a value came out, the test before it passed
 pub guarded : (t : Bool) (n : Option ℕ) (v : ℕ) → cond t n None ≡ Some v → (t ≡ true) × (n ≡ Some v)
 guarded true n v e = (refl, e)
-guarded false n v e = absurd (bad_value e)
+guarded false n v e = absurd (none-some _ e)
 
 -- ---- reading
 

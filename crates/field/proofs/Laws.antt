@@ -11,9 +11,10 @@ use lib.Dec.{leb, eqb}
 use lib.ListN.{length, take, drop, length-append, length-take, length-drop, take-append-drop}
 use lib.Seq.{take_at, drop_at}
 use Rattle.field.specs.Number.{digits_after, lone_zero, spaced, within, dollars, price, rest, filled, price_text}
-use Rattle.field.proofs.Fill.{between, bad_value, guarded, first_digit, digits_then, digit_read, filled_read}
+use Rattle.field.proofs.Fill.{between, guarded, first_digit, digits_then, digit_read, filled_read}
 use Rattle.field.proofs.Fill.{FillWritten, length_snoc, snoc_written, digits_written}
 use Rattle.std.specs.Prelude.{Option, Some, None}
+use Rattle.std.proofs.lemmas.Option.{none-some}
 
 -- ---- how large a number of so many digits is
 
@@ -35,7 +36,7 @@ within_value least most (Some u) v e =
     let h = between least most u g.0 in
     let same : u ≡ v = cc in
     (g.1, omega arith, omega arith)
-within_value least most None v e = absurd (bad_value e)
+within_value least most None v e = absurd (none-some _ e)
 
 -- ---- what is written is as wide as asked
 
@@ -70,12 +71,12 @@ spaced_digit (suc d) h =
 
 -- digits after a number that is not 0 go on with it
 spaced_then : (s t : List ℕ) (n : ℕ) → 0 < n → spaced s ≡ Some n → spaced (s ++ t) ≡ digits_after n t
-spaced_then [] t n p e = absurd (bad_value e)
+spaced_then [] t n p e = absurd (none-some _ e)
 spaced_then (b ∷ s) t n p e = go (eqb b 32) (eqb b 48) (spaced_then s t n p) e
   where
     lone : (r : List ℕ) → lone_zero r ≡ Some n → ⊥
     lone [] e = let z : n ≡ 0 = cc in omega arith
-    lone (c ∷ r) e = bad_value e
+    lone (c ∷ r) e = none-some _ e
 
     go : (space naught : Bool) → (spaced s ≡ Some n → spaced (s ++ t) ≡ digits_after n t)
         → cond space (spaced s) (cond naught (lone_zero s) (digits_after 0 (b ∷ s))) ≡ Some n
@@ -93,12 +94,12 @@ spaced_back (suc w) v h k = spaced_read w v k
 
 -- a number that is read behind the spaces p
 spaced_written : (p s : List ℕ) (v : ℕ) → FillWritten (rest 32) p 0 → spaced s ≡ Some v → FillWritten (filled 32) (p ++ s) v
-spaced_written p [] v w e = absurd (bad_value e)
+spaced_written p [] v w e = absurd (none-some _ e)
 spaced_written p (b ∷ s) v w e = go (eqb b 32) (eqb b 48) refl refl (spaced_written (p ++ (b ∷ [])) s v) e
   where
     lone : (r : List ℕ) → b ≡ 48 → lone_zero r ≡ Some v → FillWritten (filled 32) (p ++ b ∷ r) v
     lone [] x e = let z : v ≡ 0 = cc in rw (z, x) (snoc_written (filled 32) 32 p 48 0 0 w refl refl)
-    lone (c ∷ r) x e = absurd (bad_value e)
+    lone (c ∷ r) x e = absurd (none-some _ e)
 
     go : (space naught : Bool) → eqb b 32 ≡ space → eqb b 48 ≡ naught
         → (FillWritten (rest 32) (p ++ (b ∷ [])) 0 → spaced s ≡ Some v → FillWritten (filled 32) (p ++ (b ∷ []) ++ s) v)
@@ -114,7 +115,7 @@ pub spaced_write : (s : List ℕ) (v : ℕ) → spaced s ≡ Some v → (filled 
 spaced_write s v e = spaced_written [] s v (refl, omega arith) e
 
 pub spaced_some : (s : List ℕ) (v : ℕ) → spaced s ≡ Some v → 0 < length s
-spaced_some [] v e = absurd (bad_value e)
+spaced_some [] v e = absurd (none-some _ e)
 spaced_some (b ∷ s) v e = omega arith
 
 -- ---- a price: a number behind spaces, then four digits
@@ -157,6 +158,6 @@ price_write s v e = go (spaced (take i s)) (digits_after 0 (drop i s)) refl refl
         let same : m * 10000 + n ≡ v = cc in
         let parts = price_written (take i s) (drop i s) m n four (spaced_write (take i s) m p) (digits_write (drop i s) n q) in
         rw (take-append-drop i s, same) at parts
-    go (Some m) None p q e = absurd (bad_value e)
-    go None (Some n) p q e = absurd (bad_value e)
-    go None None p q e = absurd (bad_value e)
+    go (Some m) None p q e = absurd (none-some _ e)
+    go None (Some n) p q e = absurd (none-some _ e)
+    go None None p q e = absurd (none-some _ e)

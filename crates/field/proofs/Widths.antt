@@ -12,9 +12,10 @@ use Rattle.field.specs.Byte.{is_of}
 use Rattle.field.specs.Number.{digits_after, lone_zero, spaced}
 use Rattle.field.specs.Widths.{Justified, Widths}
 use Rattle.field.specs.declared.Class.TheVariants.{Digit}
-use Rattle.field.proofs.Fill.{between, bad_value, guarded}
+use Rattle.field.proofs.Fill.{between, guarded}
 use Rattle.field.proofs.Laws.{pow10_mono, length_filled, length_price, digits_read, digits_write, spaced_back, spaced_write, price_read, price_write}
 use Rattle.std.specs.Prelude.{Some}
+use Rattle.std.proofs.lemmas.Option.{none-some}
 
 -- digits after those that said a say at least a in their place
 at_least : (a : ℕ) (s : List ℕ) (v : ℕ) → digits_after a s ≡ Some v → a * 10 ^ length s ≤ v
@@ -35,12 +36,12 @@ needed b s v k h e l =
     omega arith
 
 justified : (s : List ℕ) (v : ℕ) → spaced s ≡ Some v → Justified s v
-justified [] v e = absurd (bad_value e)
+justified [] v e = absurd (none-some _ e)
 justified (b ∷ s) v e = go (eqb b 32) (eqb b 48) refl refl (justified s v) e
   where
     lone : (r : List ℕ) → b ≡ 48 → lone_zero r ≡ Some v → Justified (b ∷ r) v
     lone [] x e = let z : 0 ≡ v = cc in record { spaces = 0; digits = b ∷ []; bytes = refl; some = omega arith; says = rw (x, ← z); fewest = λ k p l. omega arith }
-    lone (c ∷ r) x e = absurd (bad_value e)
+    lone (c ∷ r) x e = absurd (none-some _ e)
 
     go : (space naught : Bool) → eqb b 32 ≡ space → eqb b 48 ≡ naught → (spaced s ≡ Some v → Justified s v)
         → cond space (spaced s) (cond naught (lone_zero s) (digits_after 0 (b ∷ s))) ≡ Some v → Justified (b ∷ s) v

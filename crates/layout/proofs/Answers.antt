@@ -1,4 +1,5 @@
 -- What reading and writing answer, case by case; and what an answer says of the piece or the record.
+use Rattle.std.specs.Prelude.{Some}
 use Prim.Native.Nat.{ℕ, ◌≤◌, ◌<◌}
 use native.Mathlib.Omega.{arith}
 use mathlib.Core.Path.{◌≡◌, refl, sym, ap, subst, ◌∙◌}
@@ -13,7 +14,6 @@ use Rattle.run.specs.Runs.{same}
 use Rattle.refusal.specs.Answer.{Answer, value, refused}
 use Rattle.message.specs.Fields.{Fields, breaks, say, read_fields}
 use Rattle.message.specs.First.{First}
-use Rattle.message.specs.Rule.{got}
 use Rattle.layout.specs.Demand2.{field_in, keeps, field_held, holds, LawfulLine, LawfulRecord}
 use Rattle.layout.specs.Line.{Said, end_of_day, line, crlf, is_line, printable, layout_of, said_by, read, line_of, unlawful, write, out_after, write_into}
 use Rattle.layout.specs.Records.{fields_of, record_of}
@@ -93,7 +93,7 @@ read_says s e = subst (ReadSays s) e (go (same s crlf) (is_line s) (printable s)
         subst (ReadSays s) (sym (fields_read s y z)) (by_fields s y z (read_fields (layout_of s) [] s) refl)
 
 -- each field of the record is what its rule reads in its bytes
-pub field_said : (s : List ℕ) (r : Record) → read s ≡ value (line r) → (n : ℕ) → 1 ≤ n → n ≤ 24 → field_in s n ≡ got (field_held r n)
+pub field_said : (s : List ℕ) (r : Record) → read s ≡ value (line r) → (n : ℕ) → 1 ≤ n → n ≤ 24 → field_in s n ≡ Some (field_held r n)
 field_said s r e n a b = (exact_of s).says s (fields_of r) (read_says s e).1 n a b
 
 pub read_back : (s : List ℕ) (r : Record) → read s ≡ value (line r) → LawfulRecord r × (line_of r ≡ s)

@@ -1,4 +1,5 @@
 -- A lawful line says a lawful record that writes to the very bytes; a lawful record writes a lawful line that says it.
+use Rattle.std.specs.Prelude.{Some}
 use Prim.Native.Nat.{ℕ, ◌≤◌}
 use native.Mathlib.Nat.{add-zero}
 use native.Mathlib.Omega.{arith}
@@ -14,7 +15,7 @@ use Rattle.field.specs.Byte.{is_of}
 use Rattle.field.specs.declared.Class.TheVariants.{Printable}
 use Rattle.message.specs.Exact.{LawfulValues, Exact}
 use Rattle.message.specs.Fields.{Field, placed, fitting, say, read_fields, write_fields}
-use Rattle.message.specs.Rule.{Rule, code, verbatim, text, blank, Value, got, reads, fits}
+use Rattle.message.specs.Rule.{Rule, code, verbatim, text, blank, Value, reads, fits}
 use Rattle.message.specs.Values.{run_of, byte_at}
 use Rattle.layout.specs.Demand2.{LawfulLine, LawfulRecord}
 use Rattle.layout.specs.Layout.{layout, types, liquidities, denominators, is_trade, is_replace, id_number}
@@ -24,7 +25,7 @@ use Rattle.layout.specs.declared.Record.{Record}
 use Rattle.run.proofs.Tests.{both}
 use Rattle.run.proofs.Sameness.{same_true}
 use Rattle.message.proofs.Exact.{exact, lawful_from}
-use Rattle.message.proofs.Rules.{got_run_lem}
+use Rattle.message.proofs.Rules.{run_some}
 use Rattle.layout.proofs.Values.{fields_record}
 
 -- ---- the table is one whose fields are placed one behind another and whose rules fit
@@ -54,12 +55,12 @@ exact_for r = exact_layout (type_of r.event) r.denominator
 
 -- ---- the codes by which a layout goes
 
-code_first : (codes l : List ℕ) (v : Value) → reads (code codes) (take 1 l) ≡ got v
+code_first : (codes l : List ℕ) (v : Value) → reads (code codes) (take 1 l) ≡ Some v
     → (get_or (run_of v) 0 0 ≡ get_or l 0 0) × (member (get_or l 0 0) codes ≡ true)
-code_first codes [] v e = absurd (false≢true (got_run_lem false [] v e).1)
-code_first codes (b ∷ l) v e = let g = got_run_lem (member b codes) (b ∷ []) v e in rw g.0 (refl, g.1)
+code_first codes [] v e = absurd (false≢true (run_some false [] v e).1)
+code_first codes (b ∷ l) v e = let g = run_some (member b codes) (b ∷ []) v e in rw g.0 (refl, g.1)
 
-code_at : (codes s : List ℕ) (at : ℕ) (v : Value) → reads (code codes) (part s at 1) ≡ got v
+code_at : (codes s : List ℕ) (at : ℕ) (v : Value) → reads (code codes) (part s at 1) ≡ Some v
     → (get_or (run_of v) 0 0 ≡ get_or s at 0) × (member (get_or s at 0) codes ≡ true)
 code_at codes s at v e =
     let q : get_or (drop at s) 0 0 ≡ get_or s at 0 = get_or-drop at s 0 0 ∙ rw add-zero in

@@ -1,4 +1,6 @@
 -- Source and Token stand in a record as they stand in its line: 01, The line: 10, 11.
+use Rattle.std.specs.Prelude.{Some}
+use Rattle.std.specs.Bool.{then_some}
 use Prim.Native.Nat.{ℕ}
 use native.Mathlib.Omega.{arith}
 use mathlib.Core.Path.{◌≡◌}
@@ -8,14 +10,14 @@ use lib.ListN.{length}
 use Rattle.run.specs.Runs.{part}
 use Rattle.refusal.specs.Answer.{value}
 use Rattle.field.specs.Verbatim.{is_text}
-use Rattle.message.specs.Rule.{run, got, got_run}
+use Rattle.message.specs.Rule.{run}
 use Rattle.layout.specs.Line.{line, read}
 use Rattle.layout.specs.declared.Record.{Record}
 use Rattle.layout.proofs.Answers.{field_said, read_says}
 use Rattle.layout.proofs.Lines.{line_length}
 
 -- bytes that are kept are the value
-kept : (t : Bool) (b v : List ℕ) → got_run t b ≡ got (run v) → b ≡ v
+kept : (t : Bool) (b v : List ℕ) → then_some t (run b) ≡ Some (run v) → b ≡ v
 kept true b v e = cc
 kept false b v e = cc
 

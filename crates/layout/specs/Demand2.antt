@@ -1,15 +1,15 @@
 -- The tender's demand 2, in the order of its sentences, of any reader and any writer. proofs/Demand2.antt proves it of the written rules.
-use Rattle.std.specs.Prelude.{ℕ, ◌≤◌, ◌<◌, ◌≡◌, Bool, true, false, List, ◌++◌, ◌⊎◌, ◌↔◌, length, drop}
+use Rattle.std.specs.Prelude.{ℕ, ◌≤◌, ◌<◌, ◌≡◌, Bool, true, false, List, ◌++◌, ◌⊎◌, ◌↔◌, length, drop, Option, Some}
 use Rattle.refusal.specs.Answer.{Answer, value, refused}
 use Rattle.message.specs.Fields.{got_at, keeps_at, value_at, holds_at}
 use Rattle.message.specs.First.{First}
-use Rattle.message.specs.Rule.{Value, Got, got}
+use Rattle.message.specs.Rule.{Value}
 use Rattle.layout.specs.Line.{Said, line, end_of_day, crlf, is_line, printable, layout_of, layout_for}
 use Rattle.layout.specs.Records.{fields_of}
 use Rattle.layout.specs.declared.Record.{Record}
 
 -- what the rule of field n reads in that field's bytes of a piece
-abbrev pub field_in : List ℕ → ℕ → Got
+abbrev pub field_in : List ℕ → ℕ → Option Value
 field_in s n = got_at (layout_of s) s n
 
 -- field n of a piece keeps its rule
@@ -38,7 +38,7 @@ pub record Demand2 (read : List ℕ → Answer Said) (write : Record → List �
   -- "Each lawful line gives exactly one record": a piece reads as a record exactly when it is lawful
   pub lawful_reads : (s : List ℕ) → LawfulLine s ↔ ((r : Record) × (read s ≡ value (line r)))
   -- and that record holds, as each of its 24 fields, what the field's rule reads in the field's bytes
-  pub says : (s : List ℕ) (r : Record) → read s ≡ value (line r) → (n : ℕ) → 1 ≤ n → n ≤ 24 → field_in s n ≡ got (field_held r n)
+  pub says : (s : List ℕ) (r : Record) → read s ≡ value (line r) → (n : ℕ) → 1 ≤ n → n ≤ 24 → field_in s n ≡ Some (field_held r n)
   -- "each lawful record exactly that line back": what is read is lawful, and with room is written as the very line; behind it stays what stood there
   pub read_back : (s : List ℕ) (r : Record) → read s ≡ value (line r)
       → LawfulRecord r × ((out : List ℕ) → 140 ≤ length out → write r out ≡ (value tt, s ++ drop 140 out))

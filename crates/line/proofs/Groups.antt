@@ -1,4 +1,6 @@
 -- What the groups of fields say by themselves makes what all of them say, and that the record of a line.
+use Rattle.std.specs.Bool.{then_some}
+use Rattle.std.specs.Option.{option_map}
 use Prim.Native.Nat.{ℕ, ◌-◌, ◌≤◌, ◌<◌}
 use mathlib.Core.Path.{◌≡◌, refl, sym, ap, ◌∙◌}
 use mathlib.Core.Bool.{Bool, true, false, cond}
@@ -8,17 +10,17 @@ use native.Mathlib.Omega.{arith}
 use lib.Dec.{lit<, lit≤}
 use lib.ListN.{length, get_or, take, drop, length-append}
 use lib.Seq.{get_or-take, get_or-drop}
-use Rattle.std.specs.Prelude.{Result, Ok, Err, Option, Some, None}
+use Rattle.std.specs.Prelude.{Result, Ok, Err, Option, Some, None, is_some}
 use Rattle.std.proofs.lemmas.List.{get_or_append_left, get_or-append_right}
 use Rattle.run.specs.Runs.{part}
 use Rattle.refusal.specs.declared.Refusal.{Refusal}
 use Rattle.refusal.specs.declared.Refusal.TheVariants.{Field}
 use Rattle.message.specs.Fields.{Fields, breaks, say, on_got, got_at, read_fields, value_at}
-use Rattle.message.specs.Rule.{code, verbatim, Kind, is_kind, blank, text, text_or_blank, digits_or_blank, hex, Value, num, Got, got, broken, is_got, got_run, reads}
-use Rattle.message.specs.Values.{run_of, num_at}
+use Rattle.message.specs.Rule.{run, code, verbatim, Kind, is_kind, blank, text, text_or_blank, digits_or_blank, hex, Value, num, reads}
+use Rattle.message.specs.Values.{num_of, run_of, num_at}
 use Rattle.message.proofs.Groups.{five_read, read_five, read_length}
-use Rattle.message.proofs.Rules.{got_run_lem}
-use Rattle.layout.specs.ByType.{bytes_on, id_got, id_on}
+use Rattle.message.proofs.Rules.{run_some}
+use Rattle.layout.specs.ByType.{bytes_on, id_on}
 use Rattle.layout.specs.Layout.{is_trade, is_replace, trade_id, types, capacities, positions, liquidities, sides, months, denominators}
 use Rattle.layout.specs.Line.{layout_of}
 use Rattle.layout.specs.Records.{event_of, event_from, record_of, record_from}
@@ -26,9 +28,23 @@ use Rattle.layout.specs.declared.Numbers.{Numbers}
 use Rattle.layout.specs.declared.Record.{Record}
 use Rattle.layout.proofs.Lines.{exact_of}
 use Rattle.layout.specs.Kept.{kept}
-use Rattle.line.specs.Groups.{group, none_by, numbers_by, timestamp_of, contracts_of, series_of, ids_of, all_of, joined, grouped, line_by}
+use Rattle.line.specs.Groups.{group, none_by, numbers_by, timestamp_of, contracts_of, series_of, ids_of, joined, grouped, line_by}
 use Rattle.line.specs.declared.Said.TheVariants.{Line}
 use Rattle.field.specs.Verbatim.{is_code, is_text, is_text_or_blank, is_digits_or_blank, is_blank}
+
+-- the numbers of all fields
+abbrev all_of : List Value → Numbers
+all_of vs =
+    record {
+      timestamp = num_at vs 0;
+      contracts = num_at vs 14;
+      date = num_at vs 17;
+      year = num_at vs 18;
+      strike = num_at vs 20;
+      price = num_at vs 21;
+      match_id = num_at vs 22;
+      cross_id = num_at vs 23;
+    }
 
 -- ---- the groups one after another
 
@@ -82,15 +98,15 @@ joins s =
 
 -- ---- the record of a line whose fields all keep their rules
 
-run_said : (t : Bool) (b : List ℕ) (v : Value) → got_run t b ≡ got v → b ≡ run_of v
-run_said t b v e = sym (ap run_of (got_run_lem t b v e).0)
+run_said : (t : Bool) (b : List ℕ) (v : Value) → then_some t (run b) ≡ Some v → b ≡ run_of v
+run_said t b v e = sym (ap run_of (run_some t b v e).0)
 
 -- a field that is blank on some types
-code_or_blank : (on : Bool) (codes b : List ℕ) (v : Value) → reads (cond on (code codes) (verbatim blank)) b ≡ got v → b ≡ run_of v
+code_or_blank : (on : Bool) (codes b : List ℕ) (v : Value) → reads (cond on (code codes) (verbatim blank)) b ≡ Some v → b ≡ run_of v
 code_or_blank true codes b v e = run_said (is_code codes b) b v e
 code_or_blank false codes b v e = run_said (is_blank b) b v e
 
-text_on : (on : Bool) (b : List ℕ) (v : Value) → reads (cond on (verbatim text) (verbatim blank)) b ≡ got v → b ≡ run_of v
+text_on : (on : Bool) (b : List ℕ) (v : Value) → reads (cond on (verbatim text) (verbatim blank)) b ≡ Some v → b ≡ run_of v
 text_on true b v e = run_said (is_text b) b v e
 text_on false b v e = run_said (is_blank b) b v e
 
@@ -99,16 +115,16 @@ byte_of : (s : List ℕ) (k : ℕ) → get_or s k 0 ≡ get_or (part s k 1) 0 0
 byte_of s k = sym (get_or-take 1 (drop k s) 0 0 (lit< tt) ∙ get_or-drop k s 0 0 ∙ ap (λ (i : ℕ). get_or s i 0) (add-zero k))
 
 module _ (s : List ℕ) (vs : List Value) (e : read_fields (layout_of s) [] s ≡ say vs) where
-  at : (n : ℕ) → 1 ≤ n → n ≤ 24 → got_at (layout_of s) s n ≡ got (value_at vs n)
+  at : (n : ℕ) → 1 ≤ n → n ≤ 24 → got_at (layout_of s) s n ≡ Some (value_at vs n)
   at = (exact_of s).says s vs e
 
   byte : (k : ℕ) (v : Value) → part s k 1 ≡ run_of v → get_or s k 0 ≡ get_or (run_of v) 0 0
   byte k v q = byte_of s k ∙ ap (λ b. get_or b 0 0) q
 
-  kind : (k : Kind) (b : List ℕ) (n : ℕ) → got_run (is_kind k b) b ≡ got (value_at vs n) → b ≡ run_of (value_at vs n)
+  kind : (k : Kind) (b : List ℕ) (n : ℕ) → then_some (is_kind k b) (run b) ≡ Some (value_at vs n) → b ≡ run_of (value_at vs n)
   kind k b n = run_said (is_kind k b) b (value_at vs n)
 
-  code_byte : (codes : List ℕ) (k n : ℕ) → reads (code codes) (part s k 1) ≡ got (value_at vs n) → get_or s k 0 ≡ get_or (run_of (value_at vs n)) 0 0
+  code_byte : (codes : List ℕ) (k n : ℕ) → reads (code codes) (part s k 1) ≡ Some (value_at vs n) → get_or s k 0 ≡ get_or (run_of (value_at vs n)) 0 0
   code_byte codes k n q = byte k (value_at vs n) (run_said (is_code codes (part s k 1)) (part s k 1) (value_at vs n) q)
 
   event_is : event_from (all_of vs) s ≡ (record_of vs).event
@@ -172,10 +188,10 @@ ids_by (Some m) (Some x) = Ok (record { timestamp = 0; contracts = 0; date = 0; 
 pub trade_group : (s : List ℕ) → let on = is_trade (get_or s 8 0) in ids_by (id_on on (part s 120 9)) (id_on on (part s 129 9)) ≡ numbers_by ids_of (group 22 24 s)
 trade_group s = go (reads (trade_id (get_or s 8 0)) (part s 120 9)) (reads (trade_id (get_or s 8 0)) (part s 129 9))
   where
-    go : (g h : Got) → ids_by (id_got g) (id_got h) ≡ numbers_by ids_of (on_got g 23 (λ v. on_got h 24 (λ w. say (v ∷ w ∷ []))))
-    go (got v) (got w) = refl
-    go (got v) broken = refl
-    go broken h = refl
+    go : (g h : Option Value) → ids_by (option_map num_of g) (option_map num_of h) ≡ numbers_by ids_of (on_got g 23 (λ v. on_got h 24 (λ w. say (v ∷ w ∷ []))))
+    go (Some v) (Some w) = refl
+    go (Some v) None = refl
+    go None h = refl
 
 -- ---- the account's fields
 
@@ -191,14 +207,14 @@ account_group s p q r t u v =
     (go (is_text_or_blank (part s 16 4)) (is_digits_or_blank (part s 20 5)) (is_digits_or_blank (part s 25 5)) (is_text (part s 30 6)) (is_text (part s 36 20))
     (reads (cond (is_replace (get_or s 8 0)) (verbatim text) (verbatim blank)) (part s 56 20)))
   where
-    go : (a b c d e : Bool) (g : Got) → let byte : ℕ → ℕ → List ℕ = part s in
-        account_by a b c d e (is_got g)
+    go : (a b c d e : Bool) (g : Option Value) → let byte : ℕ → ℕ → List ℕ = part s in
+        account_by a b c d e (is_some g)
         ≡ none_by
-        (on_got (got_run a (byte 16 4)) 7 (λ t. on_got (got_run b (byte 20 5)) 8 (λ u. on_got (got_run c (byte 25 5)) 9
-        (λ v. on_got (got_run d (byte 30 6)) 10 (λ w. on_got (got_run e (byte 36 20)) 11 (λ x. on_got g 12
+        (on_got (then_some a (run (byte 16 4))) 7 (λ t. on_got (then_some b (run (byte 20 5))) 8 (λ u. on_got (then_some c (run (byte 25 5))) 9
+        (λ v. on_got (then_some d (run (byte 30 6))) 10 (λ w. on_got (then_some e (run (byte 36 20))) 11 (λ x. on_got g 12
         (λ y. say ((((((([] ++ (t ∷ [])) ++ (u ∷ [])) ++ (v ∷ [])) ++ (w ∷ [])) ++ (x ∷ []))) ++ (y ∷ [])))))))))
-    go true true true true true (got y) = refl
-    go true true true true true broken = refl
+    go true true true true true (Some y) = refl
+    go true true true true true None = refl
     go true true true true false g = refl
     go true true true false e g = refl
     go true true false d e g = refl

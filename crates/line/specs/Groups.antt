@@ -30,7 +30,7 @@ abbrev pub line_by : Fields → Result Said Refusal
 line_by (breaks n) = Err (Field n)
 line_by (say vs) = Ok (Line (record_of vs))
 
--- ---- the numbers of a group's own fields, the others 0; and those of all fields
+-- ---- the numbers of a group's own fields, the others 0
 
 abbrev pub timestamp_of : List Value → Numbers
 timestamp_of vs = record { timestamp = num_at vs 0; contracts = 0; date = 0; year = 0; strike = 0; price = 0; match_id = 0; cross_id = 0 }
@@ -44,19 +44,6 @@ series_of vs =
 
 abbrev pub ids_of : List Value → Numbers
 ids_of vs = record { timestamp = 0; contracts = 0; date = 0; year = 0; strike = 0; price = 0; match_id = num_at vs 0; cross_id = num_at vs 1 }
-
-abbrev pub all_of : List Value → Numbers
-all_of vs =
-    record {
-      timestamp = num_at vs 0;
-      contracts = num_at vs 14;
-      date = num_at vs 17;
-      year = num_at vs 18;
-      strike = num_at vs 20;
-      price = num_at vs 21;
-      match_id = num_at vs 22;
-      cross_id = num_at vs 23;
-    }
 
 -- ---- what the groups say, put together
 

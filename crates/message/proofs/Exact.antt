@@ -1,4 +1,5 @@
 -- The laws of specs/Exact.antt, of any table whose fields are placed one behind another and whose rules fit.
+use Rattle.std.specs.Prelude.{Some, is_some}
 use Prim.Native.Nat.{ℕ, suc, ◌+◌, ◌-◌, ◌≤◌, ◌<◌}
 use native.Mathlib.Nat.{zero-add, add-zero, le_of_eq}
 use native.Mathlib.Numerals.{add-one}
@@ -12,7 +13,7 @@ use lib.ListN.{length, get_or, drop, drop_of_length-le}
 use Rattle.message.specs.Exact.{LawfulValues, Exact}
 use Rattle.message.specs.Fields.{Field, no_field, width, placed, fitting, got_at, keeps_at, Fields, breaks, say, read_fields, value_at, holds_at, first_unlawful, write_fields}
 use Rattle.message.specs.First.{Every, First}
-use Rattle.message.specs.Rule.{Value, num, got, is_got, lawful}
+use Rattle.message.specs.Rule.{Value, num, lawful}
 use Rattle.message.proofs.Fields.{tiles, tiles_from, tile, reads_at, told, told_at, first_broken, read_fields_lem, got_back}
 use Rattle.message.proofs.Fields.{LawfulFrom, lawful_count, lawful_first, first_lawful, told_lawful, lawful_width, lawful_printable, lawful_told, lawful_stands}
 use Rattle.message.proofs.First.{first_of, one_first, not_every, Checked, passed, failed, checked, first_every, every_first, first_first}
@@ -20,11 +21,11 @@ use Rattle.message.proofs.First.{first_of, one_first, not_every, Checked, passed
 -- ---- going through the fields is going through their numbers
 
 broken_first : (test : ℕ → Bool) (fields : List Field) (s : List ℕ) (n at : ℕ) → tiles n at fields ≡ true
-    → ((i : ℕ) → i < length fields → test (n + i) ≡ is_got (reads_at s (get_or fields i no_field))) → first_broken fields s ≡ first_of test n (length fields)
+    → ((i : ℕ) → i < length fields → test (n + i) ≡ is_some (reads_at s (get_or fields i no_field))) → first_broken fields s ≡ first_of test n (length fields)
 broken_first test [] s n at t h = refl
 broken_first test (f ∷ fs) s n at t h =
     let c = tile n at f fs t in
-    let here : test n ≡ is_got (reads_at s f) = rw add-zero at (h 0 (omega arith)) in
+    let here : test n ≡ is_some (reads_at s f) = rw add-zero at (h 0 (omega arith)) in
     let behind : (i : ℕ) → n + 1 + i ≡ n + suc i = λ i. omega arith in
     let rest = broken_first test fs s (n + 1) (at + f.len) c.next (λ i l. rw (behind i) (h (suc i) (omega arith))) in
     rw (here, c.numbered, rest, add-one)
@@ -86,10 +87,10 @@ module _ (fields : List Field) (p : placed 1 0 fields ≡ true) (q : fitting fie
       go (breaks n) e = absurd (not_every count (keeps_at fields s) n (read_says s e) h)
       go (say vs) e = ap say (sym (read_says s e).1)
 
-  said : (s : List ℕ) (vs : List Value) → read_fields fields [] s ≡ say vs → (n : ℕ) → 1 ≤ n → n ≤ count → got_at fields s n ≡ got (value_at vs n)
+  said : (s : List ℕ) (vs : List Value) → read_fields fields [] s ≡ say vs → (n : ℕ) → 1 ≤ n → n ≤ count → got_at fields s n ≡ Some (value_at vs n)
   said s vs e n a b =
       let h = read_says s e in
-      got_back (got_at fields s n) (h.0 n a b) ∙ ap got (sym (told_at fields s (n - 1) (omega arith)) ∙ ap (λ us. value_at us n) h.1)
+      got_back (got_at fields s n) (h.0 n a b) ∙ ap Some (sym (told_at fields s (n - 1) (omega arith)) ∙ ap (λ us. value_at us n) h.1)
 
   -- ---- lawful values
 

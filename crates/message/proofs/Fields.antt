@@ -1,4 +1,5 @@
 -- Fields one behind another, of any number: what they say of a message, and what lawful values write.
+use Rattle.std.specs.Prelude.{Option, Some, None, is_some}
 use Prim.Native.Nat.{ℕ, zero, suc, ◌+◌, ◌≤◌, ◌<◌}
 use native.Mathlib.Nat.{add-zero, add_assoc}
 use native.Mathlib.Omega.{arith}
@@ -13,7 +14,7 @@ use Rattle.run.specs.Runs.{part, all}
 use Rattle.field.specs.Byte.{is_of}
 use Rattle.field.specs.declared.Class.TheVariants.{Printable}
 use Rattle.message.specs.Fields.{Field, no_field, width, placed, fitting, breaks, say, on_got, read_fields, first_unlawful, write_fields}
-use Rattle.message.specs.Rule.{Value, num, Got, got, broken, is_got, reads, lawful, writes, fits}
+use Rattle.message.specs.Rule.{Value, num, reads, lawful, writes, fits}
 use Rattle.run.proofs.Tests.{both}
 use Rattle.run.proofs.All.{all_append}
 use Rattle.message.proofs.Rules.{reads_writes, writes_reads, writes_printable}
@@ -52,12 +53,12 @@ none_failed false rest n p e = absurd (omega arith)
 
 -- ---- reading
 
-abbrev pub reads_at : List ℕ → Field → Got
+abbrev pub reads_at : List ℕ → Field → Option Value
 reads_at s f = reads f.rule (part s f.at f.len)
 
-abbrev pub value_of : Got → Value
-value_of (got v) = v
-value_of broken = num 0
+abbrev pub value_of : Option Value → Value
+value_of (Some v) = v
+value_of None = num 0
 
 -- what each field says of a piece
 abbrev pub told : List Field → List ℕ → List Value
@@ -73,7 +74,7 @@ told_at (f ∷ fs) s (suc i) h = told_at fs s i (omega arith)
 -- the first field whose rule the piece breaks, or 0
 abbrev pub first_broken : List Field → List ℕ → ℕ
 first_broken [] s = 0
-first_broken (f ∷ fs) s = cond (is_got (reads_at s f)) (first_broken fs s) f.no
+first_broken (f ∷ fs) s = cond (is_some (reads_at s f)) (first_broken fs s) f.no
 
 -- reading stops at that field, and else says what each field says
 pub read_fields_lem : (fields : List Field) (vs : List Value) (s : List ℕ) (n at : ℕ) → 0 < n → tiles n at fields ≡ true
@@ -84,11 +85,11 @@ read_fields_lem (f ∷ fs) vs s n at p t = go (reads_at s f) (λ us. read_fields
     rest : ℕ
     rest = first_broken fs s
 
-    go : (g : Got) → ((us : List Value) → read_fields fs us s ≡ cond (eqb rest 0) (say (us ++ told fs s)) (breaks rest))
+    go : (g : Option Value) → ((us : List Value) → read_fields fs us s ≡ cond (eqb rest 0) (say (us ++ told fs s)) (breaks rest))
         → on_got g f.no (λ v. read_fields fs (vs ++ (v ∷ [])) s)
-        ≡ cond (eqb (cond (is_got g) rest f.no) 0) (say (vs ++ value_of g ∷ told fs s)) (breaks (cond (is_got g) rest f.no))
-    go (got v) ih = ih (vs ++ (v ∷ [])) ∙ rw append_snoc
-    go broken ih = rw (ne_eqb f.no 0 (λ z. absurd (omega (arith, (tile n at f fs t).numbered))))
+        ≡ cond (eqb (cond (is_some g) rest f.no) 0) (say (vs ++ value_of g ∷ told fs s)) (breaks (cond (is_some g) rest f.no))
+    go (Some v) ih = ih (vs ++ (v ∷ [])) ∙ rw append_snoc
+    go None ih = rw (ne_eqb f.no 0 (λ z. absurd (omega (arith, (tile n at f fs t).numbered))))
 
 -- ---- lawful values
 
@@ -116,12 +117,12 @@ first_lawful (f ∷ fs) (v ∷ vs) n at p t l e =
     let h = none_failed (lawful f.rule f.len v) (first_unlawful fs vs) f.no (omega arith) e in
     more c.placed c.room h.0 (first_lawful fs vs (n + 1) (at + f.len) (omega arith) c.next (omega arith) h.1)
 
-pub got_back : (g : Got) → is_got g ≡ true → g ≡ got (value_of g)
-got_back (got v) e = refl
-got_back broken e = absurd (false≢true e)
+pub got_back : (g : Option Value) → is_some g ≡ true → g ≡ Some (value_of g)
+got_back (Some v) e = refl
+got_back None e = absurd (false≢true e)
 
 -- the value that a field says is lawful there, and writes to the row's own bytes
-field_lawful : (s : List ℕ) (f : Field) → f.at + f.len ≤ length s → is_got (reads_at s f) ≡ true
+field_lawful : (s : List ℕ) (f : Field) → f.at + f.len ≤ length s → is_some (reads_at s f) ≡ true
     → let v = value_of (reads_at s f) in (lawful f.rule f.len v ≡ true) × (writes f.rule f.len v ≡ part s f.at f.len)
 field_lawful s f h e =
     let l : length (part s f.at f.len) ≡ f.len = length-take-le f.len (drop f.at s) (rw length-drop (omega arith)) in
@@ -134,7 +135,7 @@ pub told_lawful : (fields : List Field) (s : List ℕ) (n at : ℕ) → 0 < n �
 told_lawful [] s n at p t e h = (none, rw add-zero)
 told_lawful (f ∷ fs) s n at p t e h =
     let c = tile n at f fs t in
-    let k = none_failed (is_got (reads_at s f)) (first_broken fs s) f.no (omega arith) e in
+    let k = none_failed (is_some (reads_at s f)) (first_broken fs s) f.no (omega arith) e in
     let l = field_lawful s f (omega arith) k.0 in
     let ih = told_lawful fs s (n + 1) (at + f.len) (omega arith) c.next k.1 (omega arith) in (
       more c.placed c.room l.0 ih.0,
@@ -159,7 +160,7 @@ lawful_told (more {at} {f = f} {fs = fs} {v = v} {vs = vs} a q l h) s after e =
     let w = writes_reads f.rule f.len v q l in
     let b = writes f.rule f.len v in
     let d : drop at s ≡ b ++ (write_fields fs vs ++ after) = e ∙ append_assoc b (write_fields fs vs) after in
-    let g : reads_at s f ≡ got v = rw (a, d, take_at b (write_fields fs vs ++ after) f.len w.1) w.0 in
+    let g : reads_at s f ≡ Some v = rw (a, d, take_at b (write_fields fs vs ++ after) f.len w.1) w.0 in
     let ih = lawful_told h s after (rw (← drop-drop f.len at s, d) (drop_at b (write_fields fs vs ++ after) f.len w.1)) in
     rw g (ih.0, ap (λ (t : List Value). v ∷ t) ih.1)
 

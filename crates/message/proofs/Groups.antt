@@ -1,4 +1,5 @@
 -- Fields read and checked a group at a time: what each group says by itself makes what all of them say.
+use Rattle.std.specs.Prelude.{Option, Some, None}
 use Prim.Native.Nat.{ℕ, zero, suc, ◌+◌, ◌<◌}
 use native.Mathlib.Nat.{add-zero}
 use native.Mathlib.Omega.{arith}
@@ -12,7 +13,7 @@ use Rattle.run.specs.Found.{or_else}
 use Rattle.run.specs.Runs.{part}
 use Rattle.run.proofs.Tests.{both}
 use Rattle.message.specs.Fields.{Field, Fields, placed, breaks, say, on_got, read_fields, first_unlawful}
-use Rattle.message.specs.Rule.{Value, Got, got, broken, reads, lawful}
+use Rattle.message.specs.Rule.{Value, reads, lawful}
 
 -- what is read behind a group
 abbrev pub then_read : Fields → (List Value → Fields) → Fields
@@ -24,12 +25,12 @@ behind : (fs gs : List Field) (vs us : List Value) (s : List ℕ)
 behind [] gs vs us s = refl
 behind (f ∷ fs) gs vs us s = go (reads f.rule (part s f.at f.len)) (λ v. behind fs gs vs (us ++ (v ∷ [])) s)
   where
-    go : (g : Got)
+    go : (g : Option Value)
         → ((v : Value) → read_fields (fs ++ gs) (vs ++ (us ++ (v ∷ []))) s ≡ then_read (read_fields fs (us ++ (v ∷ [])) s) (λ ws. read_fields gs (vs ++ ws) s))
         → on_got g f.no (λ v. read_fields (fs ++ gs) ((vs ++ us) ++ (v ∷ [])) s)
         ≡ then_read (on_got g f.no (λ v. read_fields fs (us ++ (v ∷ [])) s)) (λ ws. read_fields gs (vs ++ ws) s)
-    go (got v) ih = rw append_assoc (ih v)
-    go broken ih = refl
+    go (Some v) ih = rw append_assoc (ih v)
+    go None ih = refl
 
 -- one group, then another behind those that said vs
 pub read_append : (fs gs : List Field) (vs : List Value) (s : List ℕ)
@@ -44,10 +45,10 @@ pub read_length : (fs : List Field) (vs us : List Value) (s : List ℕ) → read
 read_length [] vs us s e = let z : vs ≡ us = cc in rw (← z, add-zero)
 read_length (f ∷ fs) vs us s e = go (reads f.rule (part s f.at f.len)) (λ v. read_length fs (vs ++ (v ∷ [])) us s) e
   where
-    go : (g : Got) → ((v : Value) → read_fields fs (vs ++ (v ∷ [])) s ≡ say us → length us ≡ length (vs ++ (v ∷ [])) + length fs)
+    go : (g : Option Value) → ((v : Value) → read_fields fs (vs ++ (v ∷ [])) s ≡ say us → length us ≡ length (vs ++ (v ∷ [])) + length fs)
         → on_got g f.no (λ v. read_fields fs (vs ++ (v ∷ [])) s) ≡ say us → length us ≡ length vs + suc (length fs)
-    go (got v) ih h = omega (arith, ih v h, length-append vs (v ∷ []))
-    go broken ih h = absurd (broken_says h)
+    go (Some v) ih h = omega (arith, ih v h, length-append vs (v ∷ []))
+    go None ih h = absurd (broken_says h)
 
 -- five groups, one behind the other
 abbrev pub five_read : (a b c d e : Fields) → Fields

@@ -1,5 +1,8 @@
 -- The law of one field, for every rule and width: what is read is lawful and writes to its own bytes; what is lawful is written so that it
 -- reads back, in bytes that a line may have.
+use Rattle.std.specs.Bool.{then_some}
+use Rattle.std.proofs.lemmas.Option.{none-some}
+use Rattle.std.specs.Option.{option_map}
 use Prim.Native.Nat.{ℕ, zero, suc, ◌+◌, ◌-◌, ◌/◌, ◌%◌, ◌^◌, ◌≤◌, ◌<◌}
 use native.Mathlib.Omega.{arith}
 use mathlib.Core.Path.{◌≡◌, refl}
@@ -21,55 +24,52 @@ use Rattle.run.proofs.All.{all_append, all_snoc, all_wider}
 use Rattle.field.proofs.Fill.{between, is_between}
 use Rattle.field.proofs.Laws.{within_value, length_filled, length_price, digits_read, digits_write, spaced_back, spaced_write, price_read, price_write}
 use Rattle.message.specs.Rule.{Kind, text, text_or_blank, blank, digits_or_blank, hex, is_kind, Rule, number, digits, price, code, verbatim}
-use Rattle.message.specs.Rule.{Value, num, run, got, broken, got_number, got_run, reads, lawful, writes, fits}
-
-broken_got : {v : Value} → broken ≡ got v → ⊥
-broken_got e = let z : ◌≡◌ {A = ℕ} 0 1 = cc in omega arith
+use Rattle.message.specs.Rule.{Value, num, run, reads, lawful, writes, fits}
 
 -- ---- what a reader got
 
-got_number_lem : (n : Option ℕ) (v : Value) → got_number n ≡ got v → (u : ℕ) × (v ≡ num u) × (n ≡ Some u)
-got_number_lem (Some u) v e = (u, cc, refl)
-got_number_lem None v e = absurd (broken_got e)
+number_some : (n : Option ℕ) (v : Value) → option_map num n ≡ Some v → (u : ℕ) × (v ≡ num u) × (n ≡ Some u)
+number_some (Some u) v e = (u, cc, refl)
+number_some None v e = absurd (none-some _ e)
 
-got_within : (least most : ℕ) (n : Option ℕ) (v : Value) → got_number (within least most n) ≡ got v
+within_some : (least most : ℕ) (n : Option ℕ) (v : Value) → option_map num (within least most n) ≡ Some v
     → (u : ℕ) × (v ≡ num u) × (n ≡ Some u) × ((leb least u && leb u most) ≡ true)
-got_within least most n v e =
-    let g = got_number_lem (within least most n) v e in
+within_some least most n v e =
+    let g = number_some (within least most n) v e in
     let w = within_value least most n g.0 g.2 in
     (g.0, g.1, w.0, is_between least most g.0 w.1 w.2)
 
-pub got_run_lem : (t : Bool) (b : List ℕ) (v : Value) → got_run t b ≡ got v → (v ≡ run b) × (t ≡ true)
-got_run_lem true b v e = (cc, refl)
-got_run_lem false b v e = absurd (broken_got e)
+pub run_some : (t : Bool) (b : List ℕ) (v : Value) → then_some t (run b) ≡ Some v → (v ≡ run b) × (t ≡ true)
+run_some true b v e = (cc, refl)
+run_some false b v e = absurd (none-some _ e)
 
 -- ---- reading, then writing
 
 run_lawful : (t : Bool) (b : List ℕ) → t ≡ true → (eqb (length b) (length b) && t) ≡ true
 run_lawful t b e = rw (eq-eqb (length b) (length b) refl, e)
 
-pub reads_writes : (k : Rule) (b : List ℕ) (v : Value) → reads k b ≡ got v → (lawful k (length b) v ≡ true) × (writes k (length b) v ≡ b)
+pub reads_writes : (k : Rule) (b : List ℕ) (v : Value) → reads k b ≡ Some v → (lawful k (length b) v ≡ true) × (writes k (length b) v ≡ b)
 reads_writes (number least most) b v e =
-    let g = got_within least most (spaced b) v e in
+    let g = within_some least most (spaced b) v e in
     rw g.1 (g.3, (spaced_write b g.0 g.2).0)
 reads_writes (digits least most) b v e =
-    let g = got_within least most (digits_after 0 b) v e in
+    let g = within_some least most (digits_after 0 b) v e in
     rw g.1 (g.3, (digits_write b g.0 g.2).0)
 reads_writes price b v e =
-    let g = got_number_lem (read_price b) v e in
+    let g = number_some (read_price b) v e in
     let w = price_write b g.0 g.2 in
     rw g.1 (lt-ltb g.0 (10 ^ length b) w.1, w.0)
 reads_writes (code codes) b v e =
-    let g = got_run_lem (is_code codes b) b v e in
+    let g = run_some (is_code codes b) b v e in
     rw g.0 (run_lawful (is_code codes b) b g.1, refl)
 reads_writes (verbatim kind) b v e =
-    let g = got_run_lem (is_kind kind b) b v e in
+    let g = run_some (is_kind kind b) b v e in
     rw g.0 (run_lawful (is_kind kind b) b g.1, refl)
 
 -- ---- writing, then reading
 
 pub writes_reads : (k : Rule) (w : ℕ) (v : Value) → fits k w ≡ true → lawful k w v ≡ true
-    → (reads k (writes k w v) ≡ got v) × (length (writes k w v) ≡ w)
+    → (reads k (writes k w v) ≡ Some v) × (length (writes k w v) ≡ w)
 writes_reads (number least most) w (num v) f l =
     let b = between least most v l in
     let r = both (ltb 0 w) (ltb most (10 ^ w)) f in

@@ -1,12 +1,12 @@
 -- What reading and writing by a table of fields say, of any table whose fields are placed one behind another and whose rules fit. proofs/Exact.antt
 -- proves it.
-use Rattle.std.specs.Prelude.{ℕ, ◌≤◌, ◌≡◌, true, List, [], ◌++◌, ◌↔◌, length, drop}
+use Rattle.std.specs.Prelude.{ℕ, ◌≤◌, ◌≡◌, true, List, [], ◌++◌, ◌↔◌, length, drop, Some}
 use Rattle.run.specs.Runs.{part, all}
 use Rattle.field.specs.Byte.{is_of}
 use Rattle.field.specs.declared.Class.TheVariants.{Printable}
 use Rattle.message.specs.Fields.{Field, field_at, width, got_at, keeps_at, breaks, say, read_fields, value_at, holds_at, first_unlawful, write_fields}
 use Rattle.message.specs.First.{Every, First}
-use Rattle.message.specs.Rule.{Value, got, writes}
+use Rattle.message.specs.Rule.{Value, writes}
 
 -- a value for each field, each one that the field's rule allows
 pub record LawfulValues (fields : List Field) (vs : List Value) : Type 0 where
@@ -19,7 +19,7 @@ pub record Exact (fields : List Field) : Type 0 where
   -- where none does, it says as each field what the field's rule reads in the field's bytes
   pub none_broken : (s : List ℕ) → Every (length fields) (keeps_at fields s) ↔ ((vs : List Value) × (read_fields fields [] s ≡ say vs))
   pub says : (s : List ℕ) (vs : List Value) → read_fields fields [] s ≡ say vs
-      → (n : ℕ) → 1 ≤ n → n ≤ length fields → got_at fields s n ≡ got (value_at vs n)
+      → (n : ℕ) → 1 ≤ n → n ≤ length fields → got_at fields s n ≡ Some (value_at vs n)
   -- what is read is lawful and is written as the very bytes
   pub read_lawful : (s : List ℕ) (vs : List Value) → read_fields fields [] s ≡ say vs → width fields ≤ length s → LawfulValues fields vs
   pub read_written : (s : List ℕ) (vs : List Value) → read_fields fields [] s ≡ say vs → width fields ≤ length s

@@ -1,8 +1,8 @@
 -- A table of fields, and how a message is read and written by it.
-use Rattle.std.specs.Prelude.{ℕ, ◌+◌, ◌-◌, Bool, true, cond, ◌&&◌, List, [], ◌∷◌, ◌++◌, eqb, get_or}
+use Rattle.std.specs.Prelude.{ℕ, ◌+◌, ◌-◌, Bool, true, cond, ◌&&◌, List, [], ◌∷◌, ◌++◌, eqb, get_or, Option, Some, None, is_some}
 use Prim.Native.String.{String}
 use Rattle.run.specs.Runs.{part}
-use Rattle.message.specs.Rule.{Rule, verbatim, blank, Value, num, Got, got, broken, is_got, reads, writes, lawful, fits}
+use Rattle.message.specs.Rule.{Rule, verbatim, blank, Value, num, reads, writes, lawful, fits}
 
 -- 01, The line: the columns No, Field, At, Len and Rule
 pub record Field : Type 0 where
@@ -46,21 +46,21 @@ fitting (f ∷ fs) = fits f.rule f.len && fitting fs
 -- ---- reading
 
 -- what the rule of field n reads in that field's bytes
-abbrev pub got_at : List Field → List ℕ → ℕ → Got
+abbrev pub got_at : List Field → List ℕ → ℕ → Option Value
 got_at fields s n = reads (field_at fields n).rule (part s (field_at fields n).at (field_at fields n).len)
 
 -- field n keeps its rule
 abbrev pub keeps_at : List Field → List ℕ → ℕ → Bool
-keeps_at fields s n = is_got (got_at fields s n)
+keeps_at fields s n = is_some (got_at fields s n)
 
 -- the first field that breaks its rule, or what all fields say
 pub data Fields : Type 0 where
   breaks : ℕ → Fields
   say : List Value → Fields
 
-abbrev pub on_got : Got → ℕ → (Value → Fields) → Fields
-on_got (got v) n next = next v
-on_got broken n next = breaks n
+abbrev pub on_got : Option Value → ℕ → (Value → Fields) → Fields
+on_got (Some v) n next = next v
+on_got None n next = breaks n
 
 -- the fields one after another, behind those that said vs
 abbrev pub read_fields : List Field → List Value → List ℕ → Fields

@@ -1,5 +1,7 @@
 -- One field by its rule: what its bytes say, when a value is lawful there, and how it is written.
-use Rattle.std.specs.Prelude.{ℕ, ◌^◌, Bool, true, false, ◌&&◌, List, leb, ltb, eqb, length, Option, Some, None}
+use Rattle.std.specs.Prelude.{ℕ, ◌^◌, Bool, true, false, ◌&&◌, List, leb, ltb, eqb, length, Option}
+use Rattle.std.specs.Bool.{then_some}
+use Rattle.std.specs.Option.{option_map}
 use Rattle.run.specs.Runs.{all}
 use Rattle.field.specs.Byte.{is_of}
 use Rattle.field.specs.Verbatim.{is_text, is_text_or_blank, is_blank, is_digits_or_blank, is_hex, is_code}
@@ -30,29 +32,13 @@ pub data Value : Type 0 where
   num : ℕ → Value
   run : List ℕ → Value
 
-pub data Got : Type 0 where
-  got : Value → Got
-  broken : Got
-
-abbrev pub is_got : Got → Bool
-is_got (got v) = true
-is_got broken = false
-
-abbrev pub got_number : Option ℕ → Got
-got_number (Some v) = got (num v)
-got_number None = broken
-
-abbrev pub got_run : Bool → List ℕ → Got
-got_run true b = got (run b)
-got_run false b = broken
-
--- what the bytes of a field say
-abbrev pub reads : Rule → List ℕ → Got
-reads (number least most) b = got_number (read_number least most b)
-reads (digits least most) b = got_number (read_digits least most b)
-reads price b = got_number (read_price b)
-reads (code codes) b = got_run (is_code codes b) b
-reads (verbatim kind) b = got_run (is_kind kind b) b
+-- what the bytes of a field say, if they keep its rule
+abbrev pub reads : Rule → List ℕ → Option Value
+reads (number least most) b = option_map num (read_number least most b)
+reads (digits least most) b = option_map num (read_digits least most b)
+reads price b = option_map num (read_price b)
+reads (code codes) b = then_some (is_code codes b) (run b)
+reads (verbatim kind) b = then_some (is_kind kind b) (run b)
 
 -- a value that a field of w bytes can say
 abbrev pub lawful : Rule → ℕ → Value → Bool

@@ -45,7 +45,7 @@ pub struct Order {
     pub side: u8,
     pub series: Series,
     pub price: u64,
-    // One more than the elder's place, or 0.
+    // One more than the elder's place, or 0: the number that a table and a saved day hold.
     pub elder: u64,
     pub figures: Figures,
 }

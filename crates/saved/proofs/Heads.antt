@@ -1,4 +1,5 @@
 -- Heads: what is written is read back, and what is read is written as the very bytes.
+use Rattle.std.specs.Prelude.{Option, Some, None}
 use Prim.Native.Nat.{ℕ, ◌-◌, ◌≤◌}
 use native.Mathlib.Omega.{arith}
 use mathlib.Core.Path.{◌≡◌, refl, sym, ap, ◌∙◌}
@@ -9,7 +10,7 @@ use lib.Dec.{ltb}
 use lib.ListN.{length, get_or, take, drop, replicate, length-append, length-drop}
 use Rattle.field.specs.Number.{filled}
 use Rattle.field.proofs.Laws.{length_filled}
-use Rattle.message.specs.Rule.{digits, Value, num, run, Got, got, broken, reads}
+use Rattle.message.specs.Rule.{digits, Value, num, run, reads}
 use Rattle.message.specs.Values.{num_of}
 use Rattle.message.proofs.Rules.{reads_writes, writes_reads}
 use Rattle.layout.specs.Layout.{keeps_rule, strike_under}
@@ -66,12 +67,12 @@ not_taken e = let z : ◌≡◌ {A = ℕ} 0 1 = cc in omega arith
 pub same_taken : {A : Type 0} {a b : A} {u v : ℕ} → taken a u ≡ taken b v → (a ≡ b) × (u ≡ v)
 same_taken e = (cc, cc)
 
-one_number : {A : Type 0} (g : Got) (next : ℕ → Taken A) (q : A) (u : ℕ) → on_number g next ≡ taken q u
-    → (v : Value) × (g ≡ got v) × (next (num_of v) ≡ taken q u)
-one_number (got v) next q u e = (v, refl, e)
-one_number broken next q u e = absurd (not_taken e)
+one_number : {A : Type 0} (g : Option Value) (next : ℕ → Taken A) (q : A) (u : ℕ) → on_number g next ≡ taken q u
+    → (v : Value) × (g ≡ Some v) × (next (num_of v) ≡ taken q u)
+one_number (Some v) next q u e = (v, refl, e)
+one_number None next q u e = absurd (not_taken e)
 
-number_run : (least most : ℕ) (b : List ℕ) (v : Value) → reads (digits least most) b ≡ got v → filled 48 (length b) (num_of v) ≡ b
+number_run : (least most : ℕ) (b : List ℕ) (v : Value) → reads (digits least most) b ≡ Some v → filled 48 (length b) (num_of v) ≡ b
 number_run least most b (num n) e = (reads_writes (digits least most) b (num n) e).1
 number_run least most b (run x) e = absurd (false≢true (reads_writes (digits least most) b (run x) e).0)
 
@@ -91,7 +92,7 @@ module _ (r : List ℕ) (long : 18 ≤ length r) where
   wide_series : (i : ℕ) → get_or (widths_of (cut series_widths r)) i 0 ≡ get_or series_widths i 0
   wide_series i = ap (λ (ns : List ℕ). get_or ns i 0) (cut_widths series_widths r long)
 
-  digits_run : (least most i n : ℕ) (v : Value) → let runs = cut series_widths r in length (run_no runs i) ≡ n → reads (digits least most) (run_no runs i) ≡ got v
+  digits_run : (least most i n : ℕ) (v : Value) → let runs = cut series_widths r in length (run_no runs i) ≡ n → reads (digits least most) (run_no runs i) ≡ Some v
       → filled 48 n (num_of v) ≡ run_no runs i
   digits_run least most i n v l e = rw (← l) (number_run least most (run_no (cut series_widths r) i) v e)
 

@@ -1,7 +1,7 @@
 -- 02, 2: "Key, id, side and series stand as their line bytes": the runs at the head of a saved order or quote row, one behind another.
-use Rattle.std.specs.Prelude.{ℕ, ◌+◌, ◌-◌, cond, List, [], ◌∷◌, ◌++◌, ltb, length, get_or, take, drop, replicate}
+use Rattle.std.specs.Prelude.{ℕ, ◌+◌, ◌-◌, cond, List, [], ◌∷◌, ◌++◌, ltb, length, get_or, take, drop, replicate, Option, Some, None}
 use Rattle.message.specs.Fields.{field_no}
-use Rattle.message.specs.Rule.{Value, num, run, Got, got, broken, reads, writes}
+use Rattle.message.specs.Rule.{Value, num, run, reads, writes}
 use Rattle.message.specs.Values.{one, num_of}
 use Rattle.layout.specs.Layout.{layout, strike_under}
 use Rattle.order.specs.declared.Series.{Series}
@@ -57,9 +57,9 @@ run_no runs i = get_or runs i []
 abbrev pub byte_no : List (List ℕ) → ℕ → ℕ
 byte_no runs i = get_or (run_no runs i) 0 0
 
-abbrev pub on_number : {A : Type 0} → Got → (ℕ → Taken A) → Taken A
-on_number (got v) next = next (num_of v)
-on_number broken next = none
+abbrev pub on_number : {A : Type 0} → Option Value → (ℕ → Taken A) → Taken A
+on_number (Some v) next = next (num_of v)
+on_number None next = none
 
 -- fields 18, 19 and 21 by their rules. Whether the others keep theirs is asked of the order or row that is read
 abbrev pub series_from : List (List ℕ) → Taken Series
