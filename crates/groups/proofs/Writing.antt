@@ -9,7 +9,7 @@ use lib.ListN.{length, drop, set, length-set}
 use lib.Seq.{sets}
 use Rattle.groups.specs.Taken.{joined}
 use Rattle.groups.specs.Groups.{groups_of, number_bytes, Puts}
-use Rattle.groups.proofs.Numbers.{written_last, written_more, some_group, groups_some}
+use Rattle.groups.proofs.Numbers.{written_last, written_more, some_group}
 
 -- ---- the groups of a number
 
