@@ -118,20 +118,15 @@ fn reprice(t: &mut [u8], i: usize, p: u64)
     slot::store_price(t, i, p);
 }
 
-// The quote is read from the row, so that a plan stays small.
+// The quote stays as the row has it.
 fn resum(t: &mut [u8], i: usize, executed: u64, broken: u64)
     requires { RowInside (base_in t.old) i t.old }
     ensures { t.new ≡ resummed i executed broken t.old }
 {
-    let old = table::row_at(t, i);
-    let quote = old.quote;
-    table::store_row(
-        t,
-        i,
-        QuoteRow {
-            quote,
-            executed,
-            broken,
-        },
-    );
+    let row = QuoteRow {
+        executed,
+        broken,
+        ..table::row_at(t, i)
+    };
+    table::store_row(t, i, row);
 }

@@ -53,8 +53,8 @@ pub fn book(t: &mut [u8], text: &[u8], answers: &mut [u32]) -> Result<Used, Refu
     if !damage::is_sound(t) {
         return Err(Refusal::Damaged);
     }
-    let mut heads = lookup::heads_buffer();
-    let mut nexts = lookup::nexts_buffer();
+    let mut heads = [0; lookup::HEADS];
+    let mut nexts = [0; lookup::NEXTS];
     let mut day = lookup::indexed(t, &mut heads, &mut nexts);
     Ok(book_pieces(&mut day, text, answers))
 }

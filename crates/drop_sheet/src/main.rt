@@ -51,8 +51,8 @@ impl From<io::Error> for Failure {
 // The status does not say that a run failed: a line on standard error does, and nothing more is written.
 fn main(rt: HostRuntime) -> ExitCode {
     let mut table = [0; table::TABLE];
-    let mut heads = lookup::heads_buffer();
-    let mut nexts = lookup::nexts_buffer();
+    let mut heads = [0; lookup::HEADS];
+    let mut nexts = [0; lookup::NEXTS];
     let mut input = [0; ROOM];
     let mut out = [0; ROOM];
     match run(

@@ -6,7 +6,7 @@ ghost use Rattle.day.specs.Machine.{place};
 ghost use Rattle.slot.specs.Places.{place_no};
 ghost use Rattle.slot.specs.Slots.{key_in};
 ghost use Rattle.table.specs.Changes.{appended};
-ghost use Rattle.table.specs.Tables.{count_in, least_limit, limit_of, sound, table_in};
+ghost use Rattle.table.specs.Tables.{count_in, limit_of, sound, table_in};
 ghost use Rattle.lookup.specs.Beside.{Beside, Bucket};
 
 use order::{Key, Order};
@@ -17,19 +17,6 @@ use table::header;
 pub const HEADS: usize = index::USUAL;
 
 pub const NEXTS: usize = table::LIMIT as usize;
-
-// Where an index of a table of the least limit is kept. Each `ensures` is what lending the array needs.
-pub fn heads_buffer() -> [u16; HEADS]
-    ensures { 4 * least_limit ≡ length result }
-{
-    [0; HEADS]
-}
-
-pub fn nexts_buffer() -> [u16; NEXTS]
-    ensures { least_limit ≡ length result }
-{
-    [0; NEXTS]
-}
 
 // A day's lent table, sound, and beside it the index of its keys; without heads there is none.
 #[derive(Drop)]

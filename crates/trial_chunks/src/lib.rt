@@ -17,8 +17,8 @@ const LEAST: usize = 64;
 // All that the sheet program writes for the text. A case that answers None has printed nothing.
 pub fn feed_all(rt: &impl Print, text: &[u8], sizes: &[u8], room: usize) -> Option<()> {
     let mut table = [0; table::TABLE];
-    let mut heads = lookup::heads_buffer();
-    let mut nexts = lookup::nexts_buffer();
+    let mut heads = [0; lookup::HEADS];
+    let mut nexts = [0; lookup::NEXTS];
     let mut out = [0; 60_000];
     let (sizes, _) = sizes.as_chunks();
     if room < LEAST || out.len() < room || sizes.is_empty() || sizes.contains(&[0, 0]) {

@@ -7,6 +7,6 @@ pub run-requires : goal.run-requires
 run-requires c =
     record {
       nonzero = least_table.0;
-      in_bounds = (omega (arith, c.heads_buffer-heads.ensures), omega (arith, least_table.1, c.nexts_buffer-nexts.ensures));
+      in_bounds = (omega arith, omega (arith, least_table.1));
       t_in_bounds = omega (arith, least_table.2);
     }

@@ -9,6 +9,6 @@ feed_in-requires g c =
     record {
       longest_le_room = search rules;
       nonzero = least_table.0;
-      in_bounds = (omega (arith, c.heads_buffer-heads.ensures), omega (arith, least_table.1, c.nexts_buffer-nexts.ensures));
+      in_bounds = (omega arith, omega (arith, least_table.1));
       t_in_bounds = omega (arith, least_table.2);
     }
