@@ -1,4 +1,4 @@
--- A text written into a lent buffer.
+-- A text written into a lent buffer. What the sheet promises by, and may not change, has the same two (sheet/specs/Promises.antt, `text_answer` and `text_from`).
 use Rattle.std.specs.Prelude.{ℕ, cond, List, ltb, length}
 use Rattle.std.proofs.lemmas.List.Edits.{sets}
 use Rattle.refusal.specs.Answer.{Answer, value, refused}
