@@ -4,7 +4,7 @@ use mathlib.Core.List.{List}
 use Prim.Native.Nat.{ℕ}
 use Rattle.std.specs.Prelude.{Result}
 use Rattle.refusal.specs.declared.Refusal.{Refusal}
-use Rattle.book.proofs.Determined.{one_answer}
+use Rattle.layout.proofs.OneAnswer.{one_answer}
 use Rattle.book_all.specs.Promises.{BooksAll}
 use Rattle.book_all.specs.declared.Used.{Used}
 

@@ -1,19 +1,12 @@
 -- Two outcomes that the promise of an entry allows are equal.
 use Prim.Native.Nat.{ℕ}
-use mathlib.Core.Path.{◌≡◌, sym, ap, ◌∙◌}
+use mathlib.Core.Path.{◌≡◌, sym, ◌∙◌}
 use mathlib.Core.List.{List}
-use Rattle.std.specs.Prelude.{Result, Ok, Err}
-use Rattle.refusal.specs.Answer.{answer_of}
+use Rattle.std.specs.Prelude.{Result}
 use Rattle.refusal.specs.declared.Refusal.{Refusal}
-use Rattle.refusal.proofs.OneNumber.{one_refusal}
+use Rattle.layout.proofs.OneAnswer.{one_answer}
 use Rattle.section.specs.declared.Section.{Section}
 use Rattle.table.specs.Promises.{Makes, LooksUp, CopiesOf}
-
-one_answer : {A : Type 0} (x y : Result A Refusal) → answer_of x ≡ answer_of y → x ≡ y
-one_answer (Ok x) (Ok y) e = cc
-one_answer (Ok x) (Err y) e = cc
-one_answer (Err x) (Ok y) e = cc
-one_answer (Err x) (Err y) e = ap Err (one_refusal x y (cc) (cc))
 
 pub make_determined : (before : List ℕ) (x y : Result (Unit {0}) Refusal) (a b : List ℕ) → Makes before x a → Makes before y b → (x ≡ y) × (a ≡ b)
 make_determined before x y a b p q = (one_answer x y (p.said ∙ sym q.said), p.out ∙ sym q.out)
