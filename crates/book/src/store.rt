@@ -11,6 +11,7 @@ ghost use Rattle.table.specs.Tables.{base_in, sound, table_in};
 ghost use Rattle.lookup.specs.Beside.{Beside};
 ghost use Rattle.book.specs.Plans.{BooksSaid, RoomFor, after_plan, refigured, resummed};
 ghost use Rattle.book.specs.Promises.{Books};
+ghost use Rattle.lookup.specs.Lent.{SameLent};
 
 use crate::{Plan, planning};
 use layout::Record;
@@ -43,7 +44,7 @@ pub fn book(t: &mut [u8], piece: &[u8]) -> Result<(), Refusal>
 pub fn book_sound(day: &mut Day<'_>, piece: &[u8], plain: bool) -> Result<(), Refusal>
     requires { plain ≡ true → printable piece.now ≡ true }
     ensures books { Books day.old.table.now piece.now result day.new.table.now }
-    ensures same { day.new.table.ghost_name ≡ day.old.table.ghost_name }
+    ensures same { SameLent day.old day.new }
 {
     // Looked up before the line is read: the processor then does both at once.
     let own = planning::own(day, piece);

@@ -4,6 +4,7 @@
 ghost use Rattle.std.specs.Prelude.{◌≡◌, true};
 ghost use Rattle.refusal.specs.Answer.{answer_of, code_of};
 ghost use Rattle.book_all.specs.Promises.{BooksAll};
+ghost use Rattle.lookup.specs.Lent.{SameLent};
 
 use lookup::Day;
 use refusal::Refusal;
@@ -29,7 +30,7 @@ fn answer(x: Result<(), Refusal>) -> u32
 // Until the text ends or the answers are full. The table is sound by proof: no piece pays for a damage check.
 fn book_pieces(day: &mut Day<'_>, text: &[u8], answers: &mut [u32]) -> Used
     ensures books { BooksAll day.old.table.now text.now answers.old (Ok result) day.new.table.now answers.new }
-    ensures same { day.new.table.ghost_name ≡ day.old.table.ghost_name }
+    ensures same { SameLent day.old day.new }
 {
     let mut bytes = 0;
     for pieces in 0..answers.len() {

@@ -14,7 +14,7 @@ use Rattle.run.specs.Runs.{part}
 use Rattle.run.proofs.Parts.{get_d_part, length_part}
 use Rattle.run.proofs.Stores.{sets_start}
 use Rattle.field.specs.Number.{digits}
-use Rattle.message.specs.Rule.{got_number}
+use Rattle.message.specs.Rule.{num}
 use Rattle.layout.specs.Layout.{least_strike}
 use Rattle.order.specs.declared.Series.{Series}
 use Rattle.groups.specs.Taken.{Taken, none, taken, behind}
@@ -47,9 +47,9 @@ byte_at b at = get_d_part b at 1 0 (omega arith) ∙ ap (λ (n : ℕ). get_or b 
 -- the three numbers that are read, and the series that they make
 pub series_said : (b : List ℕ)
     → found (series_from (cut series_widths b))
-    ≡ found (on_number (got_number (digits 1 31 (part b 7 2))) (λ date.
-    on_number (got_number (digits 0 99 (part b 9 2))) (λ year.
-    on_number (got_number (digits (least_strike (get_or b 11 0)) 999999 (part b 12 6))) (λ strike.
+    ≡ found (on_number (option_map num (digits 1 31 (part b 7 2))) (λ date.
+    on_number (option_map num (digits 0 99 (part b 9 2))) (λ year.
+    on_number (option_map num (digits (least_strike (get_or b 11 0)) 999999 (part b 12 6))) (λ strike.
     taken (record { root = part b 0 6; month = get_or b 6 0; date = date; year = year; denominator = get_or b 11 0; strike = strike }) 18))))
 series_said b =
     ap (λ (runs : List (List ℕ)). found (series_from runs)) (series_cut b) ∙ rw (byte_at b 11, byte_at b 6)

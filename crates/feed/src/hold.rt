@@ -5,6 +5,7 @@ ghost use Rattle.book.specs.Bytes.{book_answer, book_bytes};
 ghost use Rattle.row.specs.Writes.{Wrote};
 ghost use Rattle.feed.specs.Printed.{report as printed_report};
 ghost use Rattle.feed.specs.Steps.{kept_of, longest, next_line, nothing_held};
+ghost use Rattle.lookup.specs.Lent.{SameLent};
 
 use crate::report;
 use lookup::Day;
@@ -80,7 +81,7 @@ fn book_piece(day: &mut Day<'_>, piece: &[u8], plain: bool, line: u64, out: &mut
     requires piece_value { plain ≡ true → printable piece.now ≡ true }
     ensures wrote { Wrote (printed_report line (book_answer day.old.table.now piece.now)) out.old out.new result }
     ensures t_after { day.new.table.now ≡ book_bytes day.old.table.now piece.now }
-    ensures same { day.new.table.ghost_name ≡ day.old.table.ghost_name }
+    ensures same { SameLent day.old day.new }
 {
     match book::book_sound(day, piece, plain) {
         Ok(()) => 0,
@@ -92,7 +93,7 @@ pub fn book_held(day: &mut Day<'_>, hold: &Hold, out: &mut [u8]) -> usize
     requires longest_in_bounds { longest ≤ length out.old }
     ensures wrote { Wrote (printed_report hold.now.line (book_answer day.old.table.now hold.now.piece)) out.old out.new result }
     ensures t_after { day.new.table.now ≡ book_bytes day.old.table.now hold.now.piece }
-    ensures same { day.new.table.ghost_name ≡ day.old.table.ghost_name }
+    ensures same { SameLent day.old day.new }
 {
     // Nobody has looked through what is held as one piece.
     book_piece(day, hold.piece(), false, hold.line(), out)
@@ -110,7 +111,7 @@ pub fn book_part(
     requires part_value { plain ≡ true → printable part.now ≡ true }
     ensures wrote { Wrote (printed_report hold.old.line (book_answer day.old.table.now (hold.old.piece ++ part.now))) out.old out.new result }
     ensures t_after { day.new.table.now ≡ book_bytes day.old.table.now (hold.old.piece ++ part.now) }
-    ensures same { day.new.table.ghost_name ≡ day.old.table.ghost_name }
+    ensures same { SameLent day.old day.new }
     ensures hold_after { hold.new ≡ nothing_held (next_line hold.old.line) }
 {
     let said = if hold.piece().is_empty() {

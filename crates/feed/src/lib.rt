@@ -7,6 +7,7 @@ ghost use Rattle.row.specs.Writes.{Wrote};
 ghost use Rattle.sheet.specs.Promises.{text_of};
 ghost use Rattle.sheet.specs.Texts.{longest_sheet};
 ghost use Rattle.feed.specs.Steps.{Fits, between_of, finished, last_said, last_table, longest, room_at_end, step_from};
+ghost use Rattle.lookup.specs.Lent.{SameLent};
 
 mod hold;
 mod report;
@@ -28,7 +29,7 @@ pub struct Fed {
 pub fn step(chunk: &[u8], day: &mut Day<'_>, hold: &mut Hold, out: &mut [u8]) -> Fed
     ensures fits { Fits (step_from (length out.old) (between_of hold.old day.old.table.now) chunk.now) out.old result day.new.table.now hold.new out.new }
     ensures long { length day.new.table.now ≡ length day.old.table.now }
-    ensures same { day.new.table.ghost_name ≡ day.old.table.ghost_name }
+    ensures same { SameLent day.old day.new }
 {
     let mut used = 0;
     let mut wrote = 0;
@@ -54,7 +55,7 @@ fn book_last(day: &mut Day<'_>, hold: &Hold, out: &mut [u8]) -> usize
     requires longest_in_bounds { longest ≤ length out.old }
     ensures wrote { Wrote (last_said (between_of hold.now day.old.table.now)) out.old out.new result }
     ensures t_after { day.new.table.now ≡ last_table (between_of hold.now day.old.table.now) }
-    ensures same { day.new.table.ghost_name ≡ day.old.table.ghost_name }
+    ensures same { SameLent day.old day.new }
 {
     if hold.piece().is_empty() {
         return 0;
@@ -75,7 +76,7 @@ pub fn finish(day: &mut Day<'_>, hold: &Hold, out: &mut [u8]) -> usize
     requires t_in_bounds { room_at_end (limit_of (length day.old.table.now)) ≤ length out.old }
     ensures wrote { Wrote (finished (between_of hold.now day.old.table.now)) out.old out.new result }
     ensures t_after { day.new.table.now ≡ last_table (between_of hold.now day.old.table.now) }
-    ensures same { day.new.table.ghost_name ≡ day.old.table.ghost_name }
+    ensures same { SameLent day.old day.new }
 {
     let said = book_last(day, hold, out);
     said + sheet_of(day, &mut out[said..])

@@ -6,6 +6,7 @@ ghost use Rattle.table.specs.Tables.{limit_of};
 ghost use Rattle.book.specs.Bytes.{bytes_after};
 ghost use Rattle.feed.specs.Steps.{between_of, longest, room_at_end};
 ghost use Rattle.sheet_run.specs.Promises.{Ends, Takes};
+ghost use Rattle.lookup.specs.Lent.{SameLent};
 
 use feed::Hold;
 use lookup::Day;
@@ -16,7 +17,7 @@ use std::io::Write;
 pub fn begin<'a>(table: &'a mut [u8], heads: &'a mut [u16], nexts: &'a mut [u16]) -> Day<'a>
     requires nonzero { 0 < limit_of (length table.old) }
     requires in_bounds { (1 ≤ length heads.old) × (limit_of (length table.old) ≤ length nexts.old) }
-    ensures same { result.table.ghost_name ≡ table.entry.ghost_name }
+    ensures same { (result.table.ghost_name ≡ table.entry.ghost_name) × (result.heads.ghost_name ≡ heads.entry.ghost_name) × (result.nexts.ghost_name ≡ nexts.entry.ghost_name) }
     ensures t_after { result.table.now ≡ bytes_after table.old [] }
 {
     // A buffer of such a length is never refused.
@@ -35,7 +36,7 @@ pub fn take(
     requires longest_in_bounds { longest ≤ length out.old }
     ensures takes { Takes (between_of hold.old day.old.table.now) chunk.now result day.new.table.now hold.new }
     ensures long { length day.new.table.now ≡ length day.old.table.now }
-    ensures same { day.new.table.ghost_name ≡ day.old.table.ghost_name }
+    ensures same { SameLent day.old day.new }
 {
     let mut used = 0;
     while used < chunk.len() {
@@ -50,7 +51,7 @@ pub fn take(
 pub fn end(to: &mut impl Write, day: &mut Day<'_>, hold: &Hold, out: &mut [u8]) -> io::Result<()>
     requires t_in_bounds { room_at_end (limit_of (length day.old.table.now)) ≤ length out.old }
     ensures ends { Ends (between_of hold.now day.old.table.now) out.old day.new.table.now out.new }
-    ensures same { day.new.table.ghost_name ≡ day.old.table.ghost_name }
+    ensures same { SameLent day.old day.new }
 {
     let n = feed::finish(day, hold, out);
     say(to, out, n)

@@ -2,6 +2,7 @@
 use borrow.Author.Rules.{rules}
 use Rattle.piece.proofs.Lent.{piece_bounds, plain_lent}
 use Rattle.book_all.proofs.Turns.{next_turn}
+use Rattle.lookup.proofs.Lent.{lent_on}
 use Rattle.book_all.proofs.book_pieces.Goals as goal
 
 pub slice_bounds-book_sound-end : goal.slice_bounds-book_sound-end
@@ -16,5 +17,5 @@ pub loop-pieces-preserved : goal.loop-pieces-preserved
 loop-pieces-preserved c =
     let booked = c.book_sound-said.ensures in (
       next_turn c.loop-pieces.invariant.0 c.cut-cut.result.end c.if-text-bytes.false c.loop-pieces-test.true c.cut-cut.ensures.ends booked.books c.answer.ensures,
-      search rules,
+      lent_on c.loop-pieces.invariant.1 booked.same,
     )

@@ -14,4 +14,4 @@ returns c =
     let a = c.args in
     let booked = c.book_held.ensures in
     let s = last_says a.hold.now.line a.day.now.table.now a.hold.now.piece (rw (← c.piece.ensures) (search rules)) (booked.wrote, booked.t_after) in
-    record { wrote = s.0; t_after = s.1; same = search rules }
+    record { wrote = s.0; t_after = s.1; same = booked.same }

@@ -5,6 +5,7 @@ use mathlib.Core.Path.{refl}
 use lib.ListN.{length}
 use Rattle.piece.proofs.Lent.{piece_bounds, plain_lent}
 use Rattle.feed.proofs.Turns.{first_turn, same_long, room_lent, room_said, at_chunk_end, keeps_begun, stops, next_turn}
+use Rattle.lookup.proofs.Lent.{lent_on}
 use borrow.Author.Rules.{rules}
 use Rattle.feed.proofs.step.Goals as goal
 use Rattle.feed.proofs.step.Goals.{After-cut-cut}
@@ -16,7 +17,7 @@ bounds c = piece_bounds c.args.chunk.now c.loop-used.used c.cut-cut.result.end c
 pub loop-used-init : goal.loop-used-init
 loop-used-init c =
     let a = c.args in
-    (first_turn a.chunk.now a.day.now.table.now a.hold.now a.out.now c.args.day.now.sound, refl)
+    (first_turn a.chunk.now a.day.now.table.now a.hold.now a.out.now c.args.day.now.sound, record { table = refl; heads = refl; nexts = refl })
 
 pub slice_bounds-part-end : goal.slice_bounds-part-end
 slice_bounds-part-end c = search (rules, bounds c)
@@ -63,7 +64,7 @@ pub loop-used-preserved : goal.loop-used-preserved
 loop-used-preserved c =
     let said = c.book_part-wrote.ensures in
     let inv = c.loop-used.invariant in
-    (next_turn inv.0 c.cut-cut.result.end c.loop-used-test.true c.cut-cut.ensures.ends c.if-chunk-end-ne-LF.false c.if-out-wrote-lt-LONGEST.false (said.wrote, said.t_after) said.hold_after, search rules)
+    (next_turn inv.0 c.cut-cut.result.end c.loop-used-test.true c.cut-cut.ensures.ends c.if-chunk-end-ne-LF.false c.if-out-wrote-lt-LONGEST.false (said.wrote, said.t_after) said.hold_after, lent_on inv.1 said.same)
 
 pub shape_of-out : goal.shape_of-out
 shape_of-out c = same_long c.loop-used.invariant.0

@@ -1,7 +1,7 @@
 -- `sheet_run::take` meets its contract. Each step uses a byte or more of what is left of the chunk, so the turns end.
 use native.Mathlib.Omega.{arith}
-use mathlib.Core.Path.{◌∙◌}
 use Rattle.sheet_run.proofs.Turns.{one_step, next_turn, all_taken}
+use Rattle.lookup.proofs.Lent.{lent_on}
 use borrow.Author.Rules.{rules}
 use Rattle.sheet_run.proofs.take.Goals as goal
 
@@ -22,7 +22,7 @@ pub loop-used-preserved : goal.loop-used-preserved
 loop-used-preserved g c =
     let step = c.step-fed in
     let inv = c.loop-used.invariant in
-    (next_turn inv.0 c.loop-used-test.true c.requires.longest_in_bounds step.ensures.fits step.new.day.sound step.ensures.long, step.ensures.same ∙ inv.1)
+    (next_turn inv.0 c.loop-used-test.true c.requires.longest_in_bounds step.ensures.fits step.new.day.sound step.ensures.long, lent_on inv.1 step.ensures.same)
 
 pub returns : goal.returns
 returns g c = let inv = c.loop-used.invariant in
