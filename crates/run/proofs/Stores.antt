@@ -1,12 +1,12 @@
--- Runs of stores: one behind another, and over a whole buffer.
-use Prim.Native.Nat.{ℕ, suc, ◌+◌, ◌≤◌}
-use mathlib.Core.Path.{◌≡◌, refl, sym, ap, ◌∙◌}
-use mathlib.Core.List.{List, [], ◌∷◌, ◌++◌, append_assoc, append-nil}
+-- Runs of stores: one behind another, over a whole buffer, and what a loop of stores keeps.
+use Prim.Native.Nat.{ℕ, suc, ◌+◌, ◌≤◌, ◌<◌}
+use mathlib.Core.Path.{◌≡◌, refl, ap, ◌∙◌}
+use mathlib.Core.List.{List, [], ◌∷◌, ◌++◌, append-nil}
 use native.Mathlib.Nat.{add-zero, zero-add}
 use native.Mathlib.Omega.{arith}
-use lib.ListN.{length, drop, set, drop_of_length-le}
-use lib.Seq.{sets, sets-eq, set_comm, drop-drop}
-use borrow.Rule.Slice.PartMut.{put_mid}
+use lib.ListN.{length, get_or, drop, set, drop_of_length-le}
+use lib.Seq.{sets, sets-eq, set_comm}
+use Rattle.run.proofs.Scan.{at_next}
 
 last_first : (l : List ℕ) (at : ℕ) (xs : List ℕ) (b : ℕ) → sets (set l (at + length xs) b) at xs ≡ sets l at (xs ++ (b ∷ []))
 last_first l at [] b = rw (add-zero at)
@@ -38,6 +38,10 @@ sets_whole l xs e =
     let k : length l ≤ 0 + length xs = omega arith in
     sets-eq xs l 0 h ∙ rw (drop_of_length-le l k) (append-nil xs)
 
--- a copy into a part
-pub copied : (l s t : List ℕ) (at k : ℕ) → k ≡ length s → at + length s ≤ length l → t ≡ s → put_mid at k l t ≡ sets l at s
-copied l s t at k w h e = rw (w, e) (sym (sets-eq s l at h ∙ rw (← drop-drop (length s) at l, append_assoc)))
+-- ---- what is stored, and what is left to store, give the same end
+
+pub store_next : (l s : List ℕ) (at i : ℕ) → i < length s → sets (set l (at + i) (get_or s i 0)) (at + (i + 1)) (drop (i + 1) s) ≡ sets l (at + i) (drop i s)
+store_next l s at i h = rw (at_next s i h) (ap (λ (n : ℕ). sets (set l (at + i) (get_or s i 0)) n (drop (i + 1) s)) (omega arith))
+
+pub store_end : (l s : List ℕ) (at i : ℕ) → length s ≤ i → sets l (at + i) (drop i s) ≡ l
+store_end l s at i h = rw (drop_of_length-le s h)

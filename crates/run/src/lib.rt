@@ -11,7 +11,10 @@ pub fn store(out: &mut [u8], at: usize, s: &[u8])
     requires { at + length s.now ≤ length out.old }
     ensures { out.new ≡ sets out.old at s.now }
 {
-    out[at..at + s.len()].copy_from_slice(s);
+    // Not `copy_from_slice`: of a run of any length that is a call of `memmove`, which the archive would ask of its host.
+    for i in 0..s.len() {
+        out[at + i] = s[i];
+    }
 }
 
 pub fn byte(out: &mut [u8], at: usize, b: u8)
