@@ -9,7 +9,7 @@ ghost use Rattle.sheet_run.specs.Promises.{Prints, Reads};
 
 use feed::Hold;
 use lookup::Day;
-use std::io::{Eprint, ErrorKind, Input, Print, Read};
+use std::io::{Eprint, ErrorKind, Input, Print, Read, Write};
 use std::process::ExitCode;
 use std::{fmt, io};
 
@@ -18,6 +18,22 @@ const ROOM: usize = 65_536;
 
 // The status that a program has which a signal ends that writes where nobody reads any more.
 const GONE: u8 = 141;
+
+// Standard output, written by std's own `write_all`: a write that a signal broke off is tried again, however often. The library's writer gives up in the end.
+#[derive(Drop)]
+struct Output<'a, P> {
+    rt: &'a P,
+}
+
+impl<P: Print> Write for Output<'_, P> {
+    fn write(&mut self, bytes: &[u8]) -> io::Result<usize> {
+        self.rt.write_some(bytes)
+    }
+
+    fn flush(&mut self) -> io::Result<()> {
+        Ok(())
+    }
+}
 
 // Why not all is printed. Where the reader of the output has gone away, that is no failure to tell.
 #[derive(Drop)]
@@ -84,7 +100,7 @@ fn run<R: Input + Print>(
     let mut hold = Hold::at(1);
     let mut day = sheet_run::begin(t, heads, nexts);
     read_all(rt, &mut day, &mut hold, input, out)?;
-    sheet_run::end(&mut io::writer(rt), &mut day, &hold, out)?;
+    sheet_run::end(&mut Output { rt }, &mut day, &hold, out)?;
     Ok(())
 }
 
@@ -108,7 +124,7 @@ fn read_all<R: Input + Print>(
             return Ok(());
         }
         let chunk = &input[..n];
-        sheet_run::take(&mut io::writer(rt), chunk, day, hold, out)?;
+        sheet_run::take(&mut Output { rt }, chunk, day, hold, out)?;
     }
     Err(Failure::Unread)
 }
