@@ -15,16 +15,16 @@ macro_rules! say {
     }};
 }
 
-// Bytes that need not be text.
+// Bytes that need not be text, and words with no number in them, which need no format.
 pub fn text(rt: &impl Print, s: &[u8]) {
     let _ = rt.write_all(s);
 }
 
 // All of a buffer, in brackets.
 pub fn bytes(rt: &impl Print, s: &[u8]) {
-    say!(rt; " [");
+    text(rt, b" [");
     text(rt, s);
-    say!(rt; "]");
+    text(rt, b"]");
 }
 
 // What an entry answers, from the one number that says it: done, or refused R, with field F after a 3.
@@ -63,17 +63,19 @@ pub fn left(rt: &impl Print, code: u32, lent: &[u64]) {
 }
 
 // The one number that was lent, behind its word where the entry is done.
-pub fn number(rt: &impl Print, word: &str, code: u32, n: u64) {
+pub fn number(rt: &impl Print, word: &[u8], code: u32, n: u64) {
     if code == 0 {
-        say!(rt; "{word}{n}");
+        text(rt, word);
+        say!(rt; "{n}");
         return;
     }
     left(rt, code, &[n]);
 }
 
 // A buffer that was lent: how long it is, the answer, and all its bytes.
-pub fn filled(rt: &impl Print, word: &str, code: u32, s: &[u8]) {
-    say!(rt; "{word}{} {}", s.len(), Answer(code));
+pub fn filled(rt: &impl Print, word: &[u8], code: u32, s: &[u8]) {
+    text(rt, word);
+    say!(rt; "{} {}", s.len(), Answer(code));
     bytes(rt, s);
 }
 

@@ -1,15 +1,14 @@
 // A case by its kind. A case that answers None has printed nothing: its payload is not as its kind says.
 use crate::hand::Table;
 use crate::{chunks, tables, texts};
-use say::say;
 use std::io::Print;
 
 // A case's last line ends here, whatever it says.
 pub fn case(rt: &impl Print, kind: u8, s: &[u8], table: &mut Table) {
     if answered(rt, kind, s, table).is_none() {
-        say!(rt; "bad case");
+        say::text(rt, b"bad case");
     }
-    say!(rt; "\n");
+    say::text(rt, b"\n");
 }
 
 fn answered(rt: &impl Print, kind: u8, s: &[u8], table: &mut Table) -> Option<()> {
@@ -34,7 +33,7 @@ fn name(rt: &impl Print, s: &[u8]) -> Option<()> {
     if s.contains(&b'\n') {
         return None;
     }
-    say!(rt; "== ");
+    say::text(rt, b"== ");
     say::text(rt, s);
     Some(())
 }

@@ -9,7 +9,6 @@ mod tables;
 mod texts;
 
 use hand::Table;
-use say::say;
 use std::io::{Input, Print, Read};
 
 fn main(rt: HostRuntime) {
@@ -40,7 +39,7 @@ fn one_case(
     reader.read_exact(&mut head).ok()?;
     let [kind, a, b, c, d] = head;
     let Some(payload) = payload.get_mut(..u32::from_le_bytes([a, b, c, d]) as usize) else {
-        say!(rt; "case too long\n");
+        say::text(rt, b"case too long\n");
         return None;
     };
     reader.read_exact(payload).ok()?;

@@ -20,8 +20,8 @@ pub fn case(rt: &impl Print, kind: u8, s: &[u8], t: &mut [u8]) -> Option<()> {
         b'e' => make_empty(rt, s, t),
         b'd' => damage(rt, s, t),
         b'l' => look_up(rt, s, t),
-        b'o' => copy(rt, s, t, "order ", door::skurzelt_order_at),
-        b'q' => copy(rt, s, t, "quote ", door::skurzelt_quote_at),
+        b'o' => copy(rt, s, t, b"order ", door::skurzelt_order_at),
+        b'q' => copy(rt, s, t, b"quote ", door::skurzelt_quote_at),
         b'b' => book(rt, s, t),
         b'a' => book_all(rt, s, t),
         b'h' => sheet(rt, s, t),
@@ -35,7 +35,7 @@ fn patch(rt: &impl Print, s: &[u8], t: &mut [u8]) -> Option<()> {
     t.get_mut(at..)?
         .get_mut(..bytes.len())?
         .copy_from_slice(bytes);
-    say!(rt; "patch");
+    say::text(rt, b"patch");
     say::sum(rt, t);
     Some(())
 }
@@ -67,8 +67,8 @@ fn damage(rt: &impl Print, s: &[u8], t: &[u8]) -> Option<()> {
 fn look_up(rt: &impl Print, key: &[u8], t: &[u8]) -> Option<()> {
     let mut place = 7;
     let code = door::skurzelt_find_order(t, key, &mut place);
-    say!(rt; "lookup");
-    say::number(rt, " ", code, place);
+    say::text(rt, b"lookup");
+    say::number(rt, b" ", code, place);
     Some(())
 }
 
@@ -77,7 +77,7 @@ fn copy<F: Fn(&[u8], u64, &mut [u8]) -> u32>(
     rt: &impl Print,
     s: &[u8],
     t: &[u8],
-    word: &str,
+    word: &[u8],
     entry: F,
 ) -> Option<()>
     requires { F.IsAlwaysCallable entry }
@@ -125,7 +125,7 @@ fn sheet(rt: &impl Print, s: &[u8], t: &[u8]) -> Option<()> {
     let mut written = 7;
     let code = door::skurzelt_sheet(t, out, &mut written);
     say!(rt; "sheet {n}");
-    say::number(rt, " done ", code, written);
+    say::number(rt, b" done ", code, written);
     say::sum(rt, out);
     say::bytes(rt, rows(out, code, written as usize));
     Some(())

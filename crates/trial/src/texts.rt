@@ -8,7 +8,7 @@ pub fn next_piece(rt: &impl Print, s: &[u8]) -> Option<()> {
     let mut end = 0;
     door::skurzelt_next_piece(text, at, &mut end);
     if end == at {
-        say!(rt; "piece none");
+        say::text(rt, b"piece none");
     } else {
         say!(rt; "piece {at} {end}");
     }
@@ -23,7 +23,7 @@ pub fn count(rt: &impl Print, s: &[u8]) -> Option<()> {
 // The piece with a number.
 pub fn given(rt: &impl Print, s: &[u8]) -> Option<()> {
     let (n, text) = s.split_first_chunk()?;
-    say!(rt; "given");
+    say::text(rt, b"given");
     say::bytes(rt, reader::nth(text, u64::from_le_bytes(*n) as usize));
     Some(())
 }

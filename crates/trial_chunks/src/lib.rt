@@ -7,7 +7,6 @@ ghost use Rattle.feed.specs.Steps.{longest, room_at_end};
 
 use feed::Hold;
 use lookup::Day;
-use say::say;
 use std::io;
 use std::io::Print;
 
@@ -24,11 +23,11 @@ pub fn feed_all(rt: &impl Print, text: &[u8], sizes: &[u8], room: usize) -> Opti
     if room < LEAST || out.len() < room || sizes.is_empty() || sizes.contains(&[0, 0]) {
         return None;
     }
-    say!(rt; "fed [");
+    say::text(rt, b"fed [");
     feed_in(
         rt, text, sizes, room, &mut table, &mut heads, &mut nexts, &mut out,
     );
-    say!(rt; "]");
+    say::text(rt, b"]");
     Some(())
 }
 

@@ -10,7 +10,7 @@ pub fn read(rt: &impl Print, piece: &[u8]) -> Option<()> {
     let mut kind = 0;
     let code = door::skurzelt_read(piece, &mut record, &mut kind);
     match (code, kind) {
-        (0, 0) => say!(rt; "read end of day"),
+        (0, 0) => say::text(rt, b"read end of day"),
         (0, _) => read_record(rt, &record)?,
         _ => say!(rt; "read {}", Answer(code)),
     }
@@ -19,10 +19,10 @@ pub fn read(rt: &impl Print, piece: &[u8]) -> Option<()> {
 
 // Its fields, and what writing it back gives into buffers of these sizes.
 fn read_record(rt: &impl Print, record: &[u8; FIELDS]) -> Option<()> {
-    say!(rt; "read");
+    say::text(rt, b"read");
     show::record(rt, record);
     for n in [0, 139, 140, 152] {
-        say!(rt; "\n");
+        say::text(rt, b"\n");
         written(rt, record, n)?;
     }
     Some(())
@@ -51,7 +51,7 @@ fn written(rt: &impl Print, record: &[u8], n: u16) -> Option<()> {
     let mut buffer = [b'.'; 300];
     let buffer = buffer.get_mut(..n as usize)?;
     let code = door::skurzelt_write(record, buffer);
-    say::filled(rt, "write ", code, buffer);
+    say::filled(rt, b"write ", code, buffer);
     Some(())
 }
 
@@ -60,8 +60,8 @@ pub fn strike_value(rt: &impl Print, s: &[u8]) -> Option<()> {
     let strike = u64::from_le_bytes(*strike.as_array()?);
     let mut value = 7;
     let code = door::skurzelt_strike_value(*denominator, strike, &mut value);
-    say!(rt; "strike");
-    say::number(rt, " value ", code, value);
+    say::text(rt, b"strike");
+    say::number(rt, b" value ", code, value);
     Some(())
 }
 
@@ -73,7 +73,7 @@ pub fn strike_form(rt: &impl Print, s: &[u8]) -> Option<()> {
     if code == 0 {
         show::strike(rt, denominator, strike);
     } else {
-        say!(rt; "form");
+        say::text(rt, b"form");
         say::left(rt, code, &[denominator, strike]);
     }
     Some(())
@@ -92,7 +92,7 @@ pub fn clock(rt: &impl Print, s: &[u8]) -> Option<()> {
         &mut seconds,
         &mut milliseconds,
     );
-    say!(rt; "clock");
+    say::text(rt, b"clock");
     if code == 0 {
         show::time(rt, hours, minutes, seconds, milliseconds);
     } else {
