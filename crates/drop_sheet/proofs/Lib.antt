@@ -1,0 +1,2 @@
+-- How large its buffers are
+pub mod Sizes
