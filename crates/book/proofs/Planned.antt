@@ -38,7 +38,7 @@ use Rattle.book.specs.Bytes.{event_bytes, fill_bytes}
 use Rattle.book.specs.Plans.{Older, Plans, RoomFor, plan_by, plan_about, plan_fill, plan_row, after_plan}
 use Rattle.book.specs.declared.Plan.{Plan}
 use Rattle.book.specs.declared.Plan.TheVariants.{New, NewRow}
-use Rattle.book.proofs.There.{There, free, RowThere, row_free}
+use Rattle.book.proofs.There.{free, RowThere, row_free}
 
 module _ (s : List ℕ) (r : Record) where
   refuses : (x : Refusal) → refusal_of (limit_of (length s)) (table_in s) (line r) ≡ number_of x → eqb (number_of x) 0 ≡ false → field_of x ≡ 0
@@ -118,13 +118,7 @@ module _ (s : List ℕ) (r : Record) where
     n = old.not_new
 
     -- the order that the line speaks of stands at place i
-    module _ (i : ℕ) (here : There s (subject r) i) where
-      abbrev o : Order
-      o = order_in (slot s i)
-
-      f : find (subject r) orders ≡ found o
-      f = here.is
-
+    module _ (i : ℕ) (o : Order) (f : find (subject r) orders ≡ found o) (at : place (subject r) orders ≡ i + 1) (e : o ≡ order_in (slot s i)) (h : SlotInside i s) where
       -- 02, 1: a line about an order belongs to no quote row
       none : to_quote r (find (subject r) orders) ≡ false
       none = rw (f, and-false)
@@ -143,7 +137,7 @@ module _ (s : List ℕ) (r : Record) where
           go false false false true q t u v = refuses Full (rw (none, a, b, ← m, v, n, f, q, t, u)) refl refl
           go false false false false q t u v =
               grants (plan_by r.event i o.figures r) false none (rw (none, a, b, ← m, v, n, f, q, t, u))
-              (plan_bytes r.event i here.at) (plan_room r.event i o.figures here.inside (rw (← m) v))
+              (rw e (plan_bytes r.event i at)) (plan_room r.event i o.figures h (rw (← m) v))
 
     -- 02, 1: no order has the key
     module _ (f : find (subject r) orders ≡ nobody) where

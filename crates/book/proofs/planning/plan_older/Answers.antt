@@ -1,5 +1,5 @@
 -- `book::planning::plan_older` meets its contract: no order has the key and the plan is by quote rows, or it is by the order at its place.
-use mathlib.Core.Path.{sym}
+use mathlib.Core.Path.{refl, sym}
 use Rattle.day.specs.Refusals.{subject}
 use Rattle.slot.proofs.Lookups.{nobody_found}
 use Rattle.table.specs.Tables.{table_in}
@@ -22,5 +22,6 @@ plan_about-requires c = rw c.asked_at.ensures (here (goal.at.plan_about-requires
 
 pub returns : goal.returns
 returns c =
+    let there = here (goal.at.returns c).In-Some in
     rw (c.plan_about.ensures, c.asked_at.ensures)
-    (about c.args.day.now.table.now c.args.r c.requires.older c.in-Some.i (here (goal.at.returns c).In-Some) c.is_full.result c.is_full.ensures)
+    (about c.args.day.now.table.now c.args.r c.requires.older c.in-Some.i _ there.is there.at refl there.inside c.is_full.result c.is_full.ensures)
