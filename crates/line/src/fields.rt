@@ -1,4 +1,5 @@
-// Reading a piece. The fields are read a group at a time: a chain of all 24 is more than the prover takes at once.
+// Reading a piece. The fields are read a group at a time: a chain of all 24 is more than the prover takes at once. Each field reader's answer is taken apart by
+// `let .. else`, whose else returns refusal 3 with the field's number: 01, Which places take which form.
 ghost use Rattle.std.specs.Prelude.{◌≡◌, true, length};
 ghost use Rattle.run.specs.Runs.{same};
 ghost use Rattle.layout.specs.Line.{crlf, printable};
@@ -7,7 +8,7 @@ ghost use Rattle.line.specs.Promises.{Read};
 
 use crate::Said;
 use field::{Class, digits, verbatim};
-use layout::{Numbers, keep};
+use layout::Numbers;
 use refusal::Refusal;
 
 // A piece of any length and content. It is refused by the first rule that it breaks.
@@ -93,12 +94,24 @@ fn event_fields(s: &[u8]) -> Result<Numbers, Refusal>
     requires s_value { printable s.now ≡ true }
     ensures { result ≡ numbers_by timestamp_of (group 0 6 s.now) }
 {
-    let timestamp = digits::number(&s[0..8], 0, layout::LAST_TIMESTAMP).ok_or(Refusal::Field(1))?;
-    keep(verbatim::code(&s[8..9], &layout::TYPES), 2)?;
-    keep(verbatim::text_in(&s[9..13]), 3)?;
-    keep(verbatim::code(&s[13..14], &layout::CAPACITIES), 4)?;
-    keep(verbatim::code(&s[14..15], &layout::POSITIONS), 5)?;
-    keep(layout::liquidity(&s[15..16], layout::is_trade(s[8])), 6)?;
+    let Some(timestamp) = digits::number(&s[0..8], 0, layout::LAST_TIMESTAMP) else {
+        return Err(Refusal::Field(1));
+    };
+    let true = verbatim::code(&s[8..9], &layout::TYPES) else {
+        return Err(Refusal::Field(2));
+    };
+    let true = verbatim::text_in(&s[9..13]) else {
+        return Err(Refusal::Field(3));
+    };
+    let true = verbatim::code(&s[13..14], &layout::CAPACITIES) else {
+        return Err(Refusal::Field(4));
+    };
+    let true = verbatim::code(&s[14..15], &layout::POSITIONS) else {
+        return Err(Refusal::Field(5));
+    };
+    let true = layout::liquidity(&s[15..16], layout::is_trade(s[8])) else {
+        return Err(Refusal::Field(6));
+    };
     Ok(Numbers {
         timestamp,
         ..Numbers::default()
@@ -111,12 +124,24 @@ fn account_fields(s: &[u8]) -> Result<(), Refusal>
     requires s_value { printable s.now ≡ true }
     ensures { result ≡ none_by (group 6 12 s.now) }
 {
-    keep(verbatim::text_or_blank_in(&s[16..20]), 7)?;
-    keep(verbatim::digits_or_blank(&s[20..25]), 8)?;
-    keep(verbatim::digits_or_blank(&s[25..30]), 9)?;
-    keep(verbatim::text_in(&s[30..36]), 10)?;
-    keep(verbatim::text_in(&s[36..56]), 11)?;
-    keep(layout::replaced(&s[56..76], layout::is_replace(s[8])), 12)?;
+    let true = verbatim::text_or_blank_in(&s[16..20]) else {
+        return Err(Refusal::Field(7));
+    };
+    let true = verbatim::digits_or_blank(&s[20..25]) else {
+        return Err(Refusal::Field(8));
+    };
+    let true = verbatim::digits_or_blank(&s[25..30]) else {
+        return Err(Refusal::Field(9));
+    };
+    let true = verbatim::text_in(&s[30..36]) else {
+        return Err(Refusal::Field(10));
+    };
+    let true = verbatim::text_in(&s[36..56]) else {
+        return Err(Refusal::Field(11));
+    };
+    let true = layout::replaced(&s[56..76], layout::is_replace(s[8])) else {
+        return Err(Refusal::Field(12));
+    };
     Ok(())
 }
 
@@ -126,12 +151,22 @@ fn order_fields(s: &[u8]) -> Result<Numbers, Refusal>
     requires s_value { printable s.now ≡ true }
     ensures { result ≡ numbers_by contracts_of (group 12 17 s.now) }
 {
-    keep(verbatim::hex(&s[76..85]), 13)?;
-    keep(verbatim::code(&s[85..86], &layout::SIDES), 14)?;
+    let true = verbatim::hex(&s[76..85]) else {
+        return Err(Refusal::Field(13));
+    };
+    let true = verbatim::code(&s[85..86], &layout::SIDES) else {
+        return Err(Refusal::Field(14));
+    };
     let contracts = digits::number(&s[86..92], layout::LEAST_CONTRACTS, layout::MOST_CONTRACTS);
-    let contracts = contracts.ok_or(Refusal::Field(15))?;
-    keep(verbatim::text_in(&s[92..98]), 16)?;
-    keep(verbatim::code(&s[98..99], &layout::MONTHS), 17)?;
+    let Some(contracts) = contracts else {
+        return Err(Refusal::Field(15));
+    };
+    let true = verbatim::text_in(&s[92..98]) else {
+        return Err(Refusal::Field(16));
+    };
+    let true = verbatim::code(&s[98..99], &layout::MONTHS) else {
+        return Err(Refusal::Field(17));
+    };
     Ok(Numbers {
         contracts,
         ..Numbers::default()
@@ -143,14 +178,22 @@ fn price_fields(s: &[u8]) -> Result<Numbers, Refusal>
     requires { length s.now ≡ 140 }
     ensures { result ≡ numbers_by series_of (group 17 22 s.now) }
 {
-    let date = digits::exactly(&s[99..101], layout::FIRST_DATE, layout::LAST_DATE);
-    let date = date.ok_or(Refusal::Field(18))?;
-    let year = digits::exactly(&s[101..103], 0, layout::LAST_YEAR).ok_or(Refusal::Field(19))?;
-    keep(verbatim::code(&s[103..104], &layout::DENOMINATORS), 20)?;
+    let Some(date) = digits::exactly(&s[99..101], layout::FIRST_DATE, layout::LAST_DATE) else {
+        return Err(Refusal::Field(18));
+    };
+    let Some(year) = digits::exactly(&s[101..103], 0, layout::LAST_YEAR) else {
+        return Err(Refusal::Field(19));
+    };
+    let true = verbatim::code(&s[103..104], &layout::DENOMINATORS) else {
+        return Err(Refusal::Field(20));
+    };
     let least = layout::least_strike(s[103]);
-    let strike = digits::exactly(&s[104..110], least, layout::MOST_STRIKE);
-    let strike = strike.ok_or(Refusal::Field(21))?;
-    let price = digits::price(&s[110..120]).ok_or(Refusal::Field(22))?;
+    let Some(strike) = digits::exactly(&s[104..110], least, layout::MOST_STRIKE) else {
+        return Err(Refusal::Field(21));
+    };
+    let Some(price) = digits::price(&s[110..120]) else {
+        return Err(Refusal::Field(22));
+    };
     Ok(Numbers {
         date,
         year,
@@ -166,8 +209,12 @@ fn trade_fields(s: &[u8]) -> Result<Numbers, Refusal>
     ensures { result ≡ numbers_by ids_of (group 22 24 s.now) }
 {
     let trade = layout::is_trade(s[8]);
-    let match_id = layout::id(&s[120..129], trade).ok_or(Refusal::Field(23))?;
-    let cross_id = layout::id(&s[129..138], trade).ok_or(Refusal::Field(24))?;
+    let Some(match_id) = layout::id(&s[120..129], trade) else {
+        return Err(Refusal::Field(23));
+    };
+    let Some(cross_id) = layout::id(&s[129..138], trade) else {
+        return Err(Refusal::Field(24));
+    };
     Ok(Numbers {
         match_id,
         cross_id,

@@ -27,8 +27,8 @@ six c =
     account_group s c.text_or_blank_in.ensures c.digits_or_blank.ensures c.digits_or_blank-2.ensures c.text_in.ensures c.text_in-2.ensures
     (c.replaced.ensures ∙ ap (λ (t : Bool). bytes_on t (verbatim text) (part s 56 20)) c.is_replace.ensures)
 
-pub returns-in_err-keep-6 : goal.returns-in_err-keep-6
-returns-in_err-keep-6 c = search (rules, six (goal.at.returns-in_err-keep-6 c).After-replaced)
+pub returns-in_default-replaced : goal.returns-in_default-replaced
+returns-in_default-replaced c = search (rules, six (goal.at.returns-in_default-replaced c).After-replaced)
 
 pub returns : goal.returns
 returns c = search (rules, six (goal.at.returns c).After-replaced)
