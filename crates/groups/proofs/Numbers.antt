@@ -58,11 +58,21 @@ groups_upto (suc n) v = go (ltb v 128) refl (groups_upto n (v / 128))
     go true q more = rw (written_last n v (ltb-true v 128 q)) (omega arith)
     go false q more = rw (written_more n v (ltb-false v 128 q)) (omega arith)
 
+pub groups_some : (n v : ℕ) → 1 ≤ length (groups_of (suc n) v)
+groups_some n v = go (ltb v 128) refl
+  where
+    go : (t : Bool) → ltb v 128 ≡ t → 1 ≤ length (groups_of (suc n) v)
+    go true q = rw (written_last n v (ltb-true v 128 q)) (omega arith)
+    go false q = rw (written_more n v (ltb-false v 128 q)) (omega arith)
+
 pub number_most : (k v : ℕ) → 0 < k → k ≤ 10 → v < 128 ^ k → length (number_bytes v) ≤ k
 number_most k v h m l = groups_most most_groups k v h l
 
 pub number_ten : (v : ℕ) → length (number_bytes v) ≤ 10
 number_ten v = groups_upto most_groups v
+
+pub number_some : (v : ℕ) → 1 ≤ length (number_bytes v)
+number_some v = groups_some 9 v
 
 -- ---- what is written is read back
 

@@ -1,10 +1,22 @@
--- One record more in the index.
-use Rattle.std.proofs.Common.{◌≡◌, ℕ, suc, ◌+◌, ◌<◌, Bool, true, false, cond, eqb, List, length, get_or, set, sym, refl, ap, ◌∙◌, add-one, arith, length-set, get_or-set_other, get_or-set_same, eqb-true}
+-- The empty index, and one record more.
+use Rattle.std.proofs.Common.{◌≡◌, ℕ, suc, ◌+◌, ◌<◌, ◌≤◌, Bool, true, false, cond, eqb, List, length, get_or, set, replicate, sym, refl, ap, ◌∙◌, add-one, arith, length-set, get_or-set_other, get_or-set_same, eqb-true}
 use borrow.Author.Tests.{eqb-false}
+use lib.ListN.{length-replicate, get_or-replicate}
 use Rattle.section.specs.Sections.{record_of, Holds}
 use Rattle.section.specs.declared.Section.{Section}
 use Rattle.index.specs.Indexes.{latest, bucket_in, Indexed, Enters, Entered}
 use Rattle.index.proofs.Tagging.{bucket_under}
+
+pub index_none : (keys : Section) (s heads nexts : List ℕ) (m : ℕ) → Holds keys s 0 → heads ≡ replicate m 0 → 1 ≤ m → Indexed keys s 0 heads nexts
+index_none keys s heads nexts m z e h =
+    let long : length heads ≡ m = rw e (length-replicate {A = ℕ} m 0) in
+    record {
+      holds = z;
+      some = omega arith;
+      room = omega arith;
+      firsts = λ b l. rw e (get_or-replicate m b 0 0 (omega arith));
+      chains = λ i l. absurd (omega arith);
+    }
 
 module _ {keys : Section} {s : List ℕ} {n : ℕ} {heads nexts : List ℕ} (x : Indexed keys s n heads nexts) (b : ℕ)
     (q : b ≡ bucket_in keys s (length heads) n) (l : b < length heads) (r : n < length nexts)

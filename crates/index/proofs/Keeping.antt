@@ -6,7 +6,7 @@ use Rattle.run.specs.Runs.{part}
 use Rattle.section.specs.Sections.{start_of, record_of, Inside, KeyOf}
 use Rattle.section.specs.declared.Section.{Section}
 use Rattle.section.proofs.Places.{key_in_record}
-use Rattle.section.proofs.Stores.{kept_front, kept_past, stored_here, stored_elsewhere}
+use Rattle.section.proofs.Stores.{kept_front, kept_gap, kept_past, stored_here, stored_elsewhere}
 use Rattle.index.specs.Tags.{bucket_of}
 use Rattle.index.specs.Indexes.{latest, bucket_in, Indexed, Appends}
 use Rattle.index.proofs.Chains.{latest_same}
@@ -30,6 +30,10 @@ module _ {keys : Section} {s : List ℕ} {n : ℕ} {heads nexts : List ℕ} (x :
   -- before the first key, as into a header
   pub index_front : (at : ℕ) → at + length xs ≤ keys.first → Indexed keys (sets s at xs) n heads nexts
   index_front at h = index_kept (sym (length-sets s at xs)) (λ i l. sym (kept_front keys s xs at h i)) x
+
+  -- between two keys, as into a record behind its key
+  pub index_gap : (at j : ℕ) → start_of keys j + keys.width ≤ at → at + length xs ≤ start_of keys (j + 1) → Indexed keys (sets s at xs) n heads nexts
+  index_gap at j h k = index_kept (sym (length-sets s at xs)) (λ i l. sym (kept_gap keys s xs at j h k i)) x
 
   -- behind them all, as into a section that follows
   pub index_past : (at : ℕ) → start_of keys n + keys.width ≤ at + keys.step → Indexed keys (sets s at xs) n heads nexts

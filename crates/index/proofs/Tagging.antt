@@ -1,9 +1,15 @@
 -- The tag by its words and by its last bytes, and the bucket by its upper part.
-use Rattle.std.proofs.Common.{◌≡◌, ℕ, zero, suc, ◌+◌, ◌-◌, ◌*◌, ◌/◌, ◌%◌, ◌^◌, ◌<◌, ◌≤◌, List, [], ◌∷◌, length, take, drop, ap, ◌∙◌, lt_of_lt_of_le, le_of_lt, mod-lt, div-lt_iff_lt-mul, arith, drop-drop}
-use native.Mathlib.Nat.{lt-mul-div-succ}
+use Rattle.std.proofs.Common.{◌≡◌, ℕ, zero, suc, ◌+◌, ◌-◌, ◌*◌, ◌/◌, ◌%◌, ◌^◌, ◌<◌, ◌≤◌, List, [], ◌∷◌, length, take, drop, ap, ◌∙◌, lt_of_lt_of_le, le_of_lt, mod-lt, div-lt_iff_lt-mul, add_comm, arith, drop-drop}
+use native.Mathlib.Nat.{mod-add-mod, lt-mul-div-succ}
 use Rattle.run.specs.Runs.{part}
 use Rattle.cell.specs.Cells.{le}
 use Rattle.index.specs.Tags.{more, over_words, over_bytes, tag_of, bucket_of}
+
+-- what is added may be cut to its lower 32 bits
+pub more_cut : (h w : ℕ) → more h (w % 2 ^ 32) ≡ more h w
+more_cut h w =
+    ap (λ x. x * 2654435761 % 2 ^ 32)
+    (ap (λ x. x % 2 ^ 32) (add_comm h (w % 2 ^ 32)) ∙ mod-add-mod w (2 ^ 32) h ∙ ap (λ x. x % 2 ^ 32) (add_comm w h))
 
 -- word j is taken, and n - (j + 1) are left
 pub word_next : (s : List ℕ) (n j h g : ℕ) → j < n → g ≡ more h (le (part s (4 * j) 4))

@@ -11,14 +11,22 @@ use lib.Seq.{sets}
 use Rattle.section.specs.Sections.{start_of, record_of, Inside}
 use Rattle.section.specs.declared.Section.{Section}
 use Rattle.run.proofs.Parts.{part_before, part_after, part_whole}
-use Rattle.section.proofs.Places.{start_before}
+use Rattle.section.proofs.Places.{start_most, start_before}
 
 module _ (c : Section) where
-  -- ---- a store that misses: before the first record, and behind the first n
+  -- ---- a store that misses: before the first record, between two, and behind the first n
 
   module _ (s xs : List ℕ) (at : ℕ) where
     pub kept_front : at + length xs ≤ c.first → (i : ℕ) → record_of c (sets s at xs) i ≡ record_of c s i
     kept_front h i = part_after s xs at (start_of c i) c.width (omega arith)
+
+    pub kept_gap : (j : ℕ) → start_of c j + c.width ≤ at → at + length xs ≤ start_of c (j + 1) → (i : ℕ)
+        → record_of c (sets s at xs) i ≡ record_of c s i
+    kept_gap j h k i = go (ltb j i) refl
+      where
+        go : (t : Bool) → ltb j i ≡ t → record_of c (sets s at xs) i ≡ record_of c s i
+        go true q = part_after s xs at (start_of c i) c.width (omega (arith, start_most c (j + 1) i (omega (arith, ltb-true j i q))))
+        go false q = part_before s xs at (start_of c i) c.width (omega (arith, start_most c i j (ltb-false j i q)))
 
     pub kept_past : (n : ℕ) → start_of c n + c.width ≤ at + c.step → (i : ℕ) → i < n → record_of c (sets s at xs) i ≡ record_of c s i
     kept_past n h i k = part_before s xs at (start_of c i) c.width (omega (arith, start_before c i n k))
