@@ -146,6 +146,9 @@ pub record Skipping (es : List ℕ) (n count left : ℕ) (x : Turn) : Type 0 whe
   pub same : drop left (members_from es x) ≡ drop count (families 1 0 es)
   pub stands : Stands n x
 
+pub skipping_first : {es : List ℕ} {n count left : ℕ} {x : Turn} → left ≡ count → members_from es x ≡ families 1 0 es → Stands n x → Skipping es n count left x
+skipping_first {count} e h w = record { same = rw e (ap (drop count) h); stands = w }
+
 module _ {es : List ℕ} {n count left : ℕ} {x : Turn} (p : Skipping es n count left x) where
   pub skipped_all : left ≡ 0 → members_from es x ≡ drop count (families 1 0 es)
   skipped_all e = rw e at p.same

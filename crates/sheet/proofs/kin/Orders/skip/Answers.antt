@@ -1,16 +1,11 @@
 -- `sheet::kin::Orders::skip` meets its contract: a member passed over is one less to pass over.
 use Prim.Native.Nat.{◌+◌, ◌-◌}
-use native.Mathlib.Nat.{sub-zero}
 use native.Mathlib.Omega.{arith}
-use mathlib.Core.Path.{ap}
-use lib.ListN.{drop}
-use Rattle.sheet.proofs.Turning.{skipped_all, skipped_past, skipping_on}
+use Rattle.sheet.proofs.Turning.{skipped_all, skipped_past, skipping_first, skipping_on}
 use Rattle.sheet.proofs.kin.Orders.skip.Goals as goal
 
 pub loop-init : goal.loop-init
-loop-init c =
-    let x = c.in_ok-x.ensures in
-    record { same = rw sub-zero (ap (drop c.args.count) x.result_value); stands = x.stands_or_ends }
+loop-init c = let x = c.in_ok-x.ensures in skipping_first (omega arith) x.result_value x.stands_or_ends
 
 pub next-requires : goal.next-requires
 next-requires c = c.loop.invariant.stands
